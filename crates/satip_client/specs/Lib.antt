@@ -1,4 +1,3 @@
-pub mod Ends
 pub mod Waits
 pub mod Leases
 pub mod Exchanges

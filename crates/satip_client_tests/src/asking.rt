@@ -1,5 +1,5 @@
 //! Exchanges over memory.
-use satip_base::{Strip, Want};
+use satip_base::Want;
 use satip_client::{Heard, Lease, Page, Pulse, RecordEnd, keep_alive, set_up, start};
 use satip_fixtures::recordings::{ACCEPTED, GRANTED};
 use satip_memory::{MemoryClock, MemoryConn};
@@ -187,15 +187,5 @@ fn half_of_the_timeout_brings_options(rt: HostRuntime) -> Result<(), Fail> {
         assert_eq!(rt; pulse, Pulse { mark, cseq });
         assert!(rt; begun.has_sent(before, text));
     }
-    Ok(())
-}
-
-#[test]
-fn an_end_has_its_status_and_line(rt: HostRuntime) -> Result<(), Fail> {
-    let mut line = Strip::new();
-    assert_eq!(rt; RecordEnd::Refused(503).status(), 10);
-    RecordEnd::Refused(503).print(&mut line);
-    assert!(rt; line.bytes() == b"refused 503\n".as_slice());
-    assert_eq!(rt; RecordEnd::Silent.status(), 12);
     Ok(())
 }

@@ -1,8 +1,10 @@
-//! Tests scripts, lines of entries, ends of replays and definitions of stress runs.
+//! Tests scripts, entries, replays, definitions of stress runs, and lines of outcomes.
 #![tactic(auto)]
 
 #[cfg(test)]
 mod checks;
+#[cfg(test)]
+mod outcomes;
 #[cfg(test)]
 mod records;
 #[cfg(test)]

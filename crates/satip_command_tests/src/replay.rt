@@ -5,10 +5,10 @@ ghost use Rattle.satip_plain.specs.declared.events.Event.TheVariants.{Ask, Stop}
 ghost use Rattle.satip_replay.specs.Replays.{replayed};
 
 use crate::checks::{Parts, check, given};
-use satip_config::{ConfigFault, ConfigKey, ConfigName, ConfigTable};
+use satip_config::{ConfigFault, ConfigKey, ConfigName, ConfigTable, Outcome};
 use satip_fixtures::texts::{CONFIGURATION, repeated};
 use satip_memory::{MemorySink, MemorySource};
-use satip_replay::{ReplayEnd, replay};
+use satip_replay::replay;
 use std::alloc::Global;
 use std::process::Abort;
 
@@ -29,7 +29,7 @@ struct Row {
     feeds: Option<usize>,
     script: Parts,
     failing_puts: &'static [u64],
-    end: ReplayEnd,
+    end: Outcome,
     output: Parts,
 }
 
@@ -39,7 +39,7 @@ const ROWS: &[Row] = &[
         feeds: Some(1048576),
         script: &[(b"stop\n", 1)],
         failing_puts: &[],
-        end: ReplayEnd::Configuration(ConfigFault::Shape(ConfigKey {
+        end: Outcome::Configuration(ConfigFault::Shape(ConfigKey {
             table: ConfigTable::Top,
             number: 0,
             name: ConfigName::Address,
@@ -51,7 +51,7 @@ const ROWS: &[Row] = &[
         feeds: Some(1048577),
         script: &[(b"stop\n", 1)],
         failing_puts: &[],
-        end: ReplayEnd::Configuration(ConfigFault::Long),
+        end: Outcome::Configuration(ConfigFault::Long),
         output: &[],
     },
     Row {
@@ -59,7 +59,7 @@ const ROWS: &[Row] = &[
         feeds: None,
         script: &[(b"tick 1\ntik 5", 1)],
         failing_puts: &[],
-        end: ReplayEnd::Script(2),
+        end: Outcome::Script(2),
         output: &[],
     },
     Row {
@@ -67,7 +67,7 @@ const ROWS: &[Row] = &[
         feeds: None,
         script: &[],
         failing_puts: &[1],
-        end: ReplayEnd::Done,
+        end: Outcome::Done,
         output: &[],
     },
     Row {
@@ -75,7 +75,7 @@ const ROWS: &[Row] = &[
         feeds: None,
         script: &[(b"ask 1\n", 10000)],
         failing_puts: &[],
-        end: ReplayEnd::Done,
+        end: Outcome::Done,
         output: &[(b"nothing\n", 10000)],
     },
     // The first put has 65536 bytes.
@@ -84,7 +84,7 @@ const ROWS: &[Row] = &[
         feeds: None,
         script: &[(b"ask 1\n", 10000)],
         failing_puts: &[2],
-        end: ReplayEnd::OutputFault,
+        end: Outcome::OutputFault,
         output: &[(b"nothing\n", 8192), (b"nothi", 1)],
     },
 ];

@@ -9,5 +9,6 @@ pub mod TextRanges
 pub mod LimitLemmas
 pub mod KeyFaults
 pub mod LineLemmas
+pub mod OutcomeLemmas
 mod ConfigLemmas
 mod ReadLemmas

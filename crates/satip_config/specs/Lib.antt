@@ -8,3 +8,4 @@ pub mod Config
 pub mod Lines
 pub mod Reading
 pub mod Configurations
+pub mod Outcomes

@@ -3,7 +3,7 @@
 ghost use Rattle.std.specs.Prelude.{◌≡◌, ◌≤◌, [], length};
 ghost use Rattle.satip_config.specs.Keys.{key_text};
 ghost use Rattle.satip_config.specs.FaultText.{fault_text};
-ghost use Rattle.satip_config.specs.Lines.{Says, configuration_line};
+ghost use Rattle.satip_config.specs.Lines.{Says, configuration_line, number_line};
 
 use crate::fault::ConfigFault;
 use crate::key::ConfigKey;
@@ -21,13 +21,25 @@ pub fn say<E: Sink>(line: &[u8], errors: &mut E)
 }
 
 /// Prints the line of the first fault of a configuration.
-pub fn print_fault(fault: ConfigFault, line: &mut Strip)
+pub(crate) fn print_fault(fault: ConfigFault, line: &mut Strip)
     requires empty { line.old ≡ [] }
     ensures printed { line.new ≡ configuration_line fault }
 {
     line.write(b"configuration: ");
     fault_is_short(fault);
     fault.print(line);
+    line.write(b"\n");
+}
+
+/// Prints words, a number after them, and LF.
+#[tactic(auto, using(satip_base::proofs::NumberLemmas::digit_bounds))]
+pub(crate) fn print_number(words: &[u8], number: u64, line: &mut Strip)
+    requires empty { line.old ≡ [] }
+    requires short { length words.now ≤ 20 }
+    ensures printed { line.new ≡ number_line words.now number }
+{
+    line.write(words);
+    line.write_number(number);
     line.write(b"\n");
 }
 

@@ -4,7 +4,7 @@ use Rattle.satip_base.specs.Lists.{Each}
 use Rattle.satip_world.specs.Dials.{Dial, Reads, fresh_dial}
 use Rattle.satip_world.specs.Halls.{fresh_hall}
 use Rattle.satip_world.specs.Outboxes.{fresh_outbox}
-use Rattle.satip_desk.specs.declared.kits.Jobs.{Jobs}
+use Rattle.satip_desk.specs.declared.kits.JobKits.{JobKits}
 use Rattle.satip_desk.specs.Views.{WorkerView, PumpView, TickView, JobsView}
 
 -- doors with this limit and without a connection yet, and an outlet that has sent nothing
@@ -39,7 +39,7 @@ pub record AreFresh (accepts : ℕ) (kits : JobsView) : Type 0 where
   pub ticker_is : FreshTicker kits.ticker
 
 -- the kits are the same, except for one reading of the ticker's clock
-pub record Unused {D O P M C : Type 0} (dial : C → Dial) (given left : Jobs D O P M C) : Type 0 where
+pub record Unused {D O P M C : Type 0} (dial : C → Dial) (given left : JobKits D O P M C) : Type 0 where
   pub workers_same : left.workers.items ≡ given.workers.items
   pub pumps_same : left.pumps.items ≡ given.pumps.items
   pub moment : ℕ

@@ -7,6 +7,10 @@ pub record Streams : Type 0 where
   pub output : Drain
   pub errors : Drain
 
+-- the streams of a run, by the views of its source and its sinks
+abbrev pub streams : {I O E : Type 0} → (I → Feed) → (O → Drain) → (E → Drain) → I → O → E → Streams
+streams feed printed logged input output errors = record { input = feed input; output = printed output; errors = logged errors }
+
 -- whether the content of a device is known: of the input, the output and the errors, of a desk's configurations, connections, outlets and journals, and of a
 -- client's connection and inlet
 pub record Tells : Type 1 where

@@ -7,7 +7,7 @@ use Rattle.satip_world.specs.Outboxes.{Outbox}
 use Rattle.satip_desk.specs.declared.kits.PumpKit.{PumpKit}
 use Rattle.satip_desk.specs.declared.kits.TickKit.{TickKit}
 use Rattle.satip_desk.specs.declared.kits.WorkerKit.{WorkerKit}
-use Rattle.satip_desk.specs.declared.kits.Jobs.{Jobs}
+use Rattle.satip_desk.specs.declared.kits.JobKits.{JobKits}
 use Rattle.satip_desk.specs.Handed.{Handed}
 
 -- a worker's kit: its doors, its outlet, and the key of its draws
@@ -51,7 +51,7 @@ pub record JobsView : Type 0 where
   pub pumps : List PumpView
   pub ticker : TickView
 
-abbrev pub jobs_view : {D O P M C : Type 0} → (D → Hall) → (O → Outbox) → (M → StoreView) → (C → Dial) → Jobs D O P M C → JobsView
+abbrev pub jobs_view : {D O P M C : Type 0} → (D → Hall) → (O → Outbox) → (M → StoreView) → (C → Dial) → JobKits D O P M C → JobsView
 jobs_view hall outbox shelf dial jobs = record {
   workers = map (worker_view hall outbox) jobs.workers.items;
   pumps = map (pump_view shelf outbox) jobs.pumps.items;

@@ -10,10 +10,10 @@ ghost use Rattle.satip_world.specs.Inboxes.{fresh_inbox};
 ghost use Rattle.satip_world.specs.Lines.{fresh_line};
 
 use crate::journals::JobSink;
-use crate::kits::Jobs;
+use crate::kits::{Devices, Jobs};
 use satip_base::{Address, Failed, Source, Text};
 use satip_tune::Config;
-use satip_world::{Clock, Conn, Doors, Inlet, MuxStore, Outlet, Pacer};
+use satip_world::{Clock, Conn, Inlet};
 use std::alloc::Global;
 
 /// Why a desk gives no kits.
@@ -27,26 +27,11 @@ pub enum JobsFault {
 
 /// Opens configurations by their names, and makes the kits of a server's jobs, once. Gives a client
 /// a connection, an inlet and a clock, each once, and the jobs of a server their journals.
-pub trait Desk {
+pub trait Desk: Devices {
     ghost use Rattle.satip_world.specs.Recordings.{IsStarted};
 
     /// The source from which a configuration is read.
     type Config: Source + Drop;
-
-    /// The source of connections.
-    type Doors: Doors + Drop + Send;
-
-    /// The sender of datagrams.
-    type Outlet: Outlet + Drop + Send;
-
-    /// The pauses of a job that has nothing to do.
-    type Pacer: Pacer + Drop + Send;
-
-    /// The recordings of the multiplexes.
-    type Store: MuxStore + Drop + Send;
-
-    /// The ticker's source of the time.
-    type Clock: Clock + Drop + Send;
 
     /// A client's connection to a server.
     type Wire: Conn + Drop;
@@ -84,7 +69,7 @@ pub trait Desk {
         alloc: Global,
         config: &Config,
         accepts: u32,
-    ) -> Result<Jobs<Self::Doors, Self::Outlet, Self::Pacer, Self::Store, Self::Clock>, JobsFault>
+    ) -> Result<Jobs<Self>, JobsFault>
         requires { (desk self.old).given ≡ None }
         ensures texts { (desk self.new).text ≡ (desk self.old).text }
         ensures handed { (desk self.new).handed ≡ (desk self.old).handed }

@@ -1,5 +1,25 @@
 //! The kit of each job: the devices it uses. The kits of all jobs of a server.
 
+use satip_world::{Clock, Doors, MuxStore, Outlet, Pacer};
+
+/// The kinds of device that the jobs of a server use.
+pub trait Devices {
+    /// The source of connections.
+    type Doors: Doors + Drop + Send;
+
+    /// The sender of datagrams.
+    type Outlet: Outlet + Drop + Send;
+
+    /// The pauses of a job that has nothing to do.
+    type Pacer: Pacer + Drop + Send;
+
+    /// The recordings of the multiplexes.
+    type Store: MuxStore + Drop + Send;
+
+    /// The ticker's source of the time.
+    type Clock: Clock + Drop + Send;
+}
+
 /// A worker's doors, its outlet, its pacer, and the key of its random draws.
 #[derive(Drop)]
 pub struct WorkerKit<D, O, P> {
@@ -27,8 +47,17 @@ pub struct TickKit<C, O, P> {
 
 /// A kit for each worker, one for the pump of each front end, and one for the ticker.
 #[derive(Drop)]
-pub struct Jobs<D, O, P, M, C> {
+pub struct JobKits<D, O, P, M, C> {
     pub workers: Vec<WorkerKit<D, O, P>>,
     pub pumps: Vec<PumpKit<M, O, P>>,
     pub tick: TickKit<C, O, P>,
 }
+
+/// The kits of a server's jobs, with these devices.
+pub type Jobs<K> = JobKits<
+    <K as Devices>::Doors,
+    <K as Devices>::Outlet,
+    <K as Devices>::Pacer,
+    <K as Devices>::Store,
+    <K as Devices>::Clock,
+>;

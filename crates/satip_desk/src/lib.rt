@@ -10,4 +10,4 @@ mod kits;
 
 pub use desk::{Desk, JobsFault};
 pub use journals::{JobJournal, JobSink};
-pub use kits::{Jobs, PumpKit, TickKit, WorkerKit};
+pub use kits::{Devices, JobKits, Jobs, PumpKit, TickKit, WorkerKit};

@@ -4,7 +4,7 @@ use crate::checks::check;
 use crate::sockets::{LOCALHOST, listen};
 use satip_base::Text;
 use satip_config::Config;
-use satip_desk::{Jobs, WorkerKit};
+use satip_desk::{JobKits, WorkerKit};
 use satip_fixtures::config_with;
 use satip_playout::RealPacer;
 use satip_real::{RealDoors, RealOutlet};
@@ -231,7 +231,7 @@ fn kits_go_to_other_threads(rt: HostRuntime) {
     let Ok(jobs) = real_kits(rt, rt, &config, 1) else {
         panic!(rt; "no kits");
     };
-    let Jobs {
+    let JobKits {
         workers,
         pumps,
         tick,

@@ -10,7 +10,7 @@ use Rattle.satip_world.specs.Recordings.{IsStarted}
 use Rattle.satip_memory.specs.Shelves.{Shelf, recording_in, store_view}
 use Rattle.satip_desk.specs.declared.kits.PumpKit.{PumpKit}
 use Rattle.satip_desk.specs.Views.{PumpView, pump_view}
-use Rattle.satip_desk.specs.declared.kits.Jobs.{Jobs}
+use Rattle.satip_desk.specs.declared.kits.JobKits.{JobKits}
 use Rattle.satip_memory_desk.specs.declared.desk.Drawer.{Drawer}
 use Rattle.satip_memory_desk.specs.Cabinets.{text_in, text_if}
 use Rattle.satip_memory_desk.specs.Drawers.{row_of, shelf_kit, shelf_view, given_kits, given_view, memory_view}
@@ -51,7 +51,7 @@ pumps_seen [] = refl
 pumps_seen (kit ∷ kits) = ap (λ (views : List PumpView). shelf_view (shelf_kit kit) ∷ views) (pumps_seen kits)
 
 -- the kits that are kept show what those show that are given
-pub kits_seen : {P : Type 0} (jobs : Jobs Hall Outbox P Shelf Dial) → given_view (given_kits jobs) ≡ memory_view jobs
+pub kits_seen : {P : Type 0} (jobs : JobKits Hall Outbox P Shelf Dial) → given_view (given_kits jobs) ≡ memory_view jobs
 kits_seen jobs = ap (λ (pumps : List PumpView). record {
   workers = (given_kits jobs).workers;
   pumps = pumps;

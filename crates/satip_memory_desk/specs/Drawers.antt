@@ -1,6 +1,6 @@
 -- The texts and the kits that a desk over memory keeps.
 use Rattle.std.specs.Prelude.{ℕ, List, map}
-use Rattle.satip_desk.specs.declared.kits.Jobs.{Jobs}
+use Rattle.satip_desk.specs.declared.kits.JobKits.{JobKits}
 use Rattle.satip_desk.specs.Fresh.{AreFresh}
 use Rattle.satip_desk.specs.Views.{PumpView, JobsView, jobs_view, worker_view, tick_view}
 use Rattle.satip_desk.specs.declared.kits.PumpKit.{PumpKit}
@@ -16,11 +16,11 @@ abbrev pub row_of : Drawer → List ℕ × List ℕ
 row_of drawer = (drawer.name.items, drawer.text.items)
 
 -- the view of kits over memory
-abbrev pub memory_view : {P : Type 0} → Jobs Hall Outbox P Shelf Dial → JobsView
+abbrev pub memory_view : {P : Type 0} → JobKits Hall Outbox P Shelf Dial → JobsView
 memory_view jobs = jobs_view (λ (h : Hall). h) (λ (o : Outbox). o) store_view (λ (d : Dial). d) jobs
 
 -- nothing was done with these kits, and their doors end after `accepts` connections
-abbrev pub AreNewKits : {P : Type 0} → ℕ → Jobs Hall Outbox P Shelf Dial → Type 0
+abbrev pub AreNewKits : {P : Type 0} → ℕ → JobKits Hall Outbox P Shelf Dial → Type 0
 AreNewKits accepts jobs = AreFresh accepts (memory_view jobs)
 
 -- the kept part of a pump's kit that is given
@@ -28,7 +28,7 @@ abbrev pub shelf_kit : {P : Type 0} → PumpKit Shelf Outbox P → ShelfKit
 shelf_kit kit = record { store = kit.store; outbox = kit.outlet }
 
 -- the kept part of kits that are given
-abbrev pub given_kits : {P : Type 0} → Jobs Hall Outbox P Shelf Dial → GivenKits
+abbrev pub given_kits : {P : Type 0} → JobKits Hall Outbox P Shelf Dial → GivenKits
 given_kits jobs = record {
   workers = map (worker_view (λ (h : Hall). h) (λ (o : Outbox). o)) jobs.workers.items;
   pumps = map shelf_kit jobs.pumps.items;

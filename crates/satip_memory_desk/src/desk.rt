@@ -13,7 +13,7 @@ ghost use Rattle.satip_memory_desk.specs.Drawers.{row_of, AreNewKits, given_view
 
 use crate::moment::MemoryMoment;
 use satip_base::{Address, Failed, Text, Want};
-use satip_desk::{Desk, JobJournal, Jobs, JobsFault};
+use satip_desk::{Desk, Devices, JobJournal, JobKits, JobsFault};
 use satip_memory::{
     MemoryClock, MemoryConn, MemoryDoors, MemoryInlet, MemoryOutlet, MemoryPacer, MemorySink,
     MemorySource, MemoryStore,
@@ -32,7 +32,7 @@ struct Drawer {
 }
 
 /// The kits of jobs over memory.
-pub type MemoryJobs = Jobs<MemoryDoors, MemoryOutlet, MemoryPacer, MemoryStore, MemoryClock>;
+pub type MemoryJobs = JobKits<MemoryDoors, MemoryOutlet, MemoryPacer, MemoryStore, MemoryClock>;
 
 // Kits whose doors end after `accepts` connections.
 #[derive(Drop)]
@@ -301,9 +301,7 @@ fn take_kits(
     Some(kits.jobs)
 }
 
-impl Desk for MemoryDesk {
-    type Config = MemorySource;
-
+impl Devices for MemoryDesk {
     type Doors = MemoryDoors;
 
     type Outlet = MemoryOutlet;
@@ -313,6 +311,10 @@ impl Desk for MemoryDesk {
     type Store = MemoryStore;
 
     type Clock = MemoryClock;
+}
+
+impl Desk for MemoryDesk {
+    type Config = MemorySource;
 
     type Wire = MemoryConn;
 

@@ -1,12 +1,11 @@
--- The statuses of a serve with journals, and its lines.
-use Rattle.std.proofs.Common.{◌≡◌, ℕ, ◌⊎◌, inl, inr, List, Option, Some, None, IsSomeAnd, MatchOption, sym, ◌∙◌, subst, arith}
+-- The statuses of a serve with journals.
+use Rattle.std.proofs.Common.{◌≡◌, ℕ, ◌⊎◌, inl, inr, Option, Some, None, IsSomeAnd, MatchOption, sym, ◌∙◌, arith}
 use Rattle.satip_base.specs.Streams.{Feed, Rose}
 use Rattle.satip_world.specs.Counts.{Rises}
-use Rattle.satip_journal.specs.declared.ends.JournalEnd.{JournalEnd}
-use Rattle.satip_journal.specs.declared.ends.JournalEnd.TheVariants.{Served, Configuration, InputFault, JournalFault, DoorsFault, HistoryFull, OutOfMemory}
-use Rattle.satip_journal.specs.Statuses.{journal_status, journal_line}
+use Rattle.satip_journal_serve.specs.declared.ends.JournalEnd.{JournalEnd}
+use Rattle.satip_journal_serve.specs.declared.ends.JournalEnd.TheVariants.{Served, Configuration, InputFault, JournalFault, DoorsFault, HistoryFull, OutOfMemory}
+use Rattle.satip_journal_serve.specs.Statuses.{journal_status}
 use Rattle.satip_program.specs.Journaling.{IsOfJournal}
-use Rattle.satip_program.specs.Commands.{line_of}
 
 never_usage : (end : JournalEnd) → journal_status end ≡ 2 → ⊥
 never_usage Served is = omega (arith, is)
@@ -42,17 +41,6 @@ journal_apart end status of = record {
   script = λ is. never_script end (sym of ∙ is);
   long = λ is. never_long end (sym of ∙ is);
 }
-
--- the line of each status but 3
-pub journal_told : (Line : List ℕ → Type 0) (end : JournalEnd) (status : ℕ) → status ≡ journal_status end → Line (journal_line end)
-    → (status ≡ 3 → ⊥) → Line (line_of status)
-journal_told Line Served status of line other = let L : ℕ → Type 0 = λ n. Line (line_of n) in subst L (sym of) line
-journal_told Line (Configuration fault) status of line other = absurd (other of)
-journal_told Line InputFault status of line other = let L : ℕ → Type 0 = λ n. Line (line_of n) in subst L (sym of) line
-journal_told Line JournalFault status of line other = let L : ℕ → Type 0 = λ n. Line (line_of n) in subst L (sym of) line
-journal_told Line DoorsFault status of line other = let L : ℕ → Type 0 = λ n. Line (line_of n) in subst L (sym of) line
-journal_told Line HistoryFull status of line other = let L : ℕ → Type 0 = λ n. Line (line_of n) in subst L (sym of) line
-journal_told Line OutOfMemory status of line other = let L : ℕ → Type 0 = λ n. Line (line_of n) in subst L (sym of) line
 
 -- a fault of the configuration is the desk's or its source's
 pub input_of : (source : Option Feed) (before now : ℕ) → MatchOption source (Rises before now) (λ s. Rose 0 s.faults)

@@ -2,9 +2,8 @@ pub mod AcceptsLemmas
 pub mod ServingLemmas
 mod RunLemmas
 mod TalkLemmas
-mod ReplayLemmas
 mod StressLemmas
-mod AuditLemmas
+mod BatchLemmas
 mod RecordingLemmas
 mod ServiceLemmas
 mod JournalLemmas

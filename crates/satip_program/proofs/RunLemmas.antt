@@ -4,9 +4,11 @@ use Rattle.satip_base.specs.Streams.{Feed, Drain, Rose, PutAll, FailedToPut}
 use Rattle.satip_base.specs.Lists.{Has}
 use Rattle.satip_talk_command.specs.Runs.{input_limit}
 use Rattle.satip_config.specs.Lines.{Says}
+use Rattle.satip_config.specs.Outcomes.{Logs, line_of, status_of}
+use Rattle.satip_config.specs.declared.outcome.Outcome.{Outcome}
 use Rattle.satip_desk.specs.Streams.{Streams, Tells}
 use Rattle.satip_desk.specs.Views.{DeskView}
-use Rattle.satip_program.specs.Commands.{Form, Asked, config_named, line_of, recording_in}
+use Rattle.satip_program.specs.Commands.{Form, Asked, config_named, recording_in, usage}
 use Rattle.satip_program.specs.Ended.{EndedView, ended_alone}
 use Rattle.satip_program.specs.Runs.{AsksOnly, CommandEnds, GivesBack, IsShown, RunEnds, StatusTells}
 
@@ -52,9 +54,8 @@ pub input_tells : (t : Tells) (form : Form) (d f : DeskView) (s r : Streams) (e 
     → (e.status ≡ 5 → Rose d.faults f.faults ⊎ IsSomeAnd e.source (λ source. Rose 0 source.faults) ⊎ Rose s.input.faults r.input.faults)
     → (e.status ≡ 6 → Rose s.output.faults r.output.faults)
     → ((e.status ≡ 8) ↔ (input_limit < r.input.taken - s.input.taken)) → r.input.taken ≤ s.input.taken + input_limit + 1
-    → ((e.status ≡ 3 → ⊥) → (e.status ≡ 4 → ⊥) → Says t.errors s.errors r.errors (line_of e.status))
-    → StatusTells t (alone (Some form)) d f s r e
-input_tells t form d f s r e has configuration script input output long limit line =
+    → Logs t.errors s.errors r.errors e.status → StatusTells t (alone (Some form)) d f s r e
+input_tells t form d f s r e has configuration script input output long limit logs =
     let other = apart e.status has in
     record {
       usage = ((λ is. absurd (other.0 is)), λ none. let formless = none.0 in let never : ⊥ = cc in absurd never);
@@ -65,7 +66,7 @@ input_tells t form d f s r e has configuration script input output long limit li
       no_serving = λ unserved. (other.1, other.2);
       too_long = long;
       limit = limit;
-      errors = λ unrecorded no_fault no_number. line no_fault no_number;
+      errors = λ unrecorded. inr logs;
     }
 
 -- the statuses of commands that take no input
@@ -87,15 +88,15 @@ of_output status (inr (inr (inr none))) = absurd none
 
 -- a command that takes no input
 pub output_tells : (t : Tells) (form : Form) (d f : DeskView) (i : Feed) (o n e m : Drain) (source : Option Feed) (status : ℕ)
-    → Has status output_statuses → (status ≡ 6 → Rose o.faults n.faults) → Says t.errors e m (line_of status)
+    → Has status output_statuses → (status ≡ 6 → Rose o.faults n.faults) → Logs t.errors e m status
     → StatusTells t (alone (Some form)) d f (record { input = i; output = o; errors = e }) (record { input = i; output = n; errors = m })
     (ended_alone source status)
-output_tells t form d f i o n e m source status has output line =
+output_tells t form d f i o n e m source status has output logs =
     let other = of_output status has in
     input_tells t form d f (record { input = i; output = o; errors = e }) (record { input = i; output = n; errors = m }) (ended_alone source status)
     (has_input status has)
     (λ is. absurd (other.0 is)) (λ is. absurd (other.1 is)) (λ is. absurd (other.2 is)) output
-    ((λ is. absurd (other.3 is)), λ more. absurd (omega (arith, more))) (omega arith) (λ no_fault no_number. line)
+    ((λ is. absurd (other.3 is)), λ more. absurd (omega (arith, more))) (omega arith) logs
 
 -- a text that is written has one of these statuses
 pub shows_has : (ot : Type 0) (o n : Drain) (text : List ℕ) (status : ℕ) → IsShown ot o n text status → Has status output_statuses
@@ -141,15 +142,16 @@ ends_alone t form d s r status command tells = record {
 }
 
 -- a text of the program's own
-pub shows_tells : (t : Tells) (form : Form) (d : DeskView) (i : Feed) (o n e m : Drain) (text : List ℕ) (status : ℕ)
-    → IsShown t.output o n text status → Says t.errors e m (line_of status)
+pub shows_tells : (t : Tells) (form : Form) (d : DeskView) (i : Feed) (o n e m : Drain) (text : List ℕ) (end : Outcome)
+    → IsShown t.output o n text (status_of end) → Says t.errors e m (line_of end)
     → StatusTells t (alone (Some form)) d d (record { input = i; output = o; errors = e }) (record { input = i; output = n; errors = m })
-    (ended_alone None status)
-shows_tells t form d i o n e m text status shows line =
-    output_tells t form d d i o n e m None status (shows_has t.output o n text status shows) (shows_rose t.output o n text status shows) line
+    (ended_alone None (status_of end))
+shows_tells t form d i o n e m text end shows line =
+    output_tells t form d d i o n e m None (status_of end) (shows_has t.output o n text (status_of end) shows) (shows_rose t.output o n text (status_of end) shows)
+    (record { outcome = end; status_is = refl; says = line })
 
 -- the words are an unknown command line
-pub usage_tells : (t : Tells) (d : DeskView) (i : Feed) (o e m : Drain) → Says t.errors e m (line_of 2)
+pub usage_tells : (t : Tells) (d : DeskView) (i : Feed) (o e m : Drain) → Says t.errors e m usage
     → StatusTells t (alone None) d d (record { input = i; output = o; errors = e }) (record { input = i; output = o; errors = m }) (ended_alone None 2)
 usage_tells t d i o e m line = record {
   usage = ((λ is. (refl, refl)), λ none. refl);
@@ -160,5 +162,5 @@ usage_tells t d i o e m line = record {
   no_serving = λ unserved. ((λ is. omega (arith, is)), λ is. omega (arith, is));
   too_long = ((λ is. absurd (omega (arith, is))), λ more. absurd (omega (arith, more)));
   limit = omega arith;
-  errors = λ unrecorded no_fault no_number. line;
+  errors = λ unrecorded. inl (refl, line);
 }

@@ -3,12 +3,12 @@ use Rattle.std.proofs.Common.{◌≡◌, ℕ, ◌⊎◌, ◌↔◌, inl, inr, tr
 use Rattle.satip_base.specs.Streams.{Feed, Drain, Rose}
 use Rattle.satip_base.specs.Lists.{Has}
 use Rattle.satip_world.specs.Counts.{Rises}
-use Rattle.satip_config.specs.Lines.{Says}
+use Rattle.satip_config.specs.Outcomes.{Logs}
 use Rattle.satip_desk.specs.Journals.{journals_view}
 use Rattle.satip_desk.specs.Streams.{Streams, Tells}
 use Rattle.satip_desk.specs.Views.{DeskView}
 use Rattle.satip_tunnel_serve.specs.Serve.Statuses.{serve_statuses}
-use Rattle.satip_program.specs.Commands.{Asked, Serving, is_journal, is_tunnel, line_of}
+use Rattle.satip_program.specs.Commands.{Asked, Serving, is_journal, is_tunnel}
 use Rattle.satip_program.specs.Ended.{EndedView}
 use Rattle.satip_program.specs.Journaling.{IsOfJournal}
 use Rattle.satip_program.specs.Runs.{AsksOnly, GivesBack, RunEnds, ServiceEnds, StatusTells}
@@ -30,9 +30,9 @@ none_viewed job drain (sink ∷ sinks) is = let never : ⊥ = cc in absurd never
 -- with journals or without
 pub service_tells : (t : Tells) (service : Serving) (d f : DeskView) (i : Feed) (o e m : Drain) (v : EndedView)
     → IsOfJournal v.status → (is_journal (Some service) ≡ false → v.status ≡ 6 → ⊥)
-    → (v.status ≡ 5 → Rose d.faults f.faults ⊎ IsSomeAnd v.source (λ s. Rose 0 s.faults)) → ((v.status ≡ 3 → ⊥) → Says t.errors e m (line_of v.status))
+    → (v.status ≡ 5 → Rose d.faults f.faults ⊎ IsSomeAnd v.source (λ s. Rose 0 s.faults)) → Logs t.errors e m v.status
     → StatusTells t (serving service) d f (unread i o e) (unread i o m) v
-service_tells t service d f i o e m v apart whole input line = record {
+service_tells t service d f i o e m v apart whole input logs = record {
   usage = ((λ is. absurd (apart.usage is)), λ none. let other = none.1 in let never : ⊥ = cc in absurd never);
   configuration = λ unserved is. let never : ⊥ = cc in absurd never;
   script = λ is. absurd (apart.script is);
@@ -42,7 +42,7 @@ service_tells t service d f i o e m v apart whole input line = record {
   no_serving = λ unserved. let never : ⊥ = cc in absurd never;
   too_long = ((λ is. absurd (apart.long is)), λ more. absurd (omega (arith, more)));
   limit = omega arith;
-  errors = λ unrecorded no_fault no_number. line no_fault;
+  errors = λ unrecorded. inr logs;
 }
 
 -- a status that a serve never has
@@ -64,10 +64,10 @@ serve_apart status (inr (inr (inr (inr (inr (inr none)))))) = absurd none
 -- of a serve and of a tunnel
 pub serve_tells : (t : Tells) (service : Serving) (d f : DeskView) (i : Feed) (o e m : Drain) (v : EndedView)
     → Has v.status serve_statuses → ((v.status ≡ 5) ↔ MatchOption v.source (Rises d.faults f.faults) (λ s. Rose 0 s.faults))
-    → ((v.status ≡ 3 → ⊥) → Says t.errors e m (line_of v.status)) → StatusTells t (serving service) d f (unread i o e) (unread i o m) v
-serve_tells t service d f i o e m v has input line =
+    → Logs t.errors e m v.status → StatusTells t (serving service) d f (unread i o e) (unread i o m) v
+serve_tells t service d f i o e m v has input logs =
     let apart = serve_apart v.status has in
-    service_tells t service d f i o e m v apart.0 (λ other is. apart.1 is) (λ is. input_of v.source d.faults f.faults (input.0 is)) line
+    service_tells t service d f i o e m v apart.0 (λ other is. apart.1 is) (λ is. input_of v.source d.faults f.faults (input.0 is)) logs
 
 -- what comes back of a service
 pub service_back : (service : Serving) (v : EndedView) → (is_tunnel (Some service) ≡ true → v.last ≡ None)

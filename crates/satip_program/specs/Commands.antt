@@ -1,5 +1,5 @@
 -- The words of the command line, and the texts that the program writes of itself.
-use Rattle.std.specs.Prelude.{ℕ, ◌≤◌, ◌==◌, Bool, true, false, List, [], ◌∷◌, ◌++◌, codes, Option, Some, None, if◌then◌else◌}
+use Rattle.std.specs.Prelude.{ℕ, ◌≤◌, Bool, true, false, List, [], ◌∷◌, ◌++◌, codes, Option, Some, None, if◌then◌else◌}
 use Rattle.std.specs.Str.{bytes_eq}
 use Rattle.satip_base.specs.Numbers.{number_of}
 use Rattle.satip_recorder.specs.Words.{Wanted, wanted, wanted_of}
@@ -200,15 +200,3 @@ help = usage
 -- the output of --version
 abbrev pub version : List ℕ
 version = codes "satip 0.1.0\n"
-
--- the line on the errors sink for a status; a status that names a place has another line
-abbrev pub line_of : ℕ → List ℕ
-line_of status =
-    if status == 2 then usage
-    else if status == 5 then codes "input fault\n"
-    else if status == 6 then codes "output fault\n"
-    else if status == 7 then codes "doors fault\n"
-    else if status == 8 then codes "input too long\n"
-    else if status == 9 then codes "history full\n"
-    else if status == 70 then codes "out of memory\n"
-    else []

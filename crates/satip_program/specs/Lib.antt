@@ -1,5 +1,4 @@
 pub mod Commands
-pub mod Serving
 pub mod Ended
 pub mod Runs
 pub mod Recording

@@ -2,10 +2,11 @@
 use Rattle.std.specs.Prelude.{◌≡◌, ℕ, ◌+◌, ◌-◌, ◌<◌, ◌≤◌, ◌⊎◌, ◌↔◌, true, false, List, [], Option, Some, None, IsSome, IsSomeAnd}
 use Rattle.satip_base.specs.Streams.{Drain, Rose, PutAll, FailedToPut}
 use Rattle.satip_config.specs.Lines.{Says, configuration_line}
+use Rattle.satip_config.specs.Outcomes.{Logs}
 use Rattle.satip_desk.specs.Streams.{Streams, Tells}
 use Rattle.satip_desk.specs.Views.{DeskView}
-use Rattle.satip_journal.specs.Audit.CommandEnds.{AuditEnds}
-use Rattle.satip_journal.specs.Ends.{JournalEnds}
+use Rattle.satip_journal_serve.specs.Audit.CommandEnds.{AuditEnds}
+use Rattle.satip_journal_serve.specs.Ends.{JournalEnds}
 use Rattle.satip_recorder.specs.Ends.{RecordEnds}
 use Rattle.satip_replay.specs.CommandEnds.{ReplayEnds}
 use Rattle.satip_tunnel_serve.specs.Serve.CommandEnds.{Serves}
@@ -13,12 +14,16 @@ use Rattle.satip_stress.specs.CommandEnds.{StressEnds}
 use Rattle.satip_talk_command.specs.Ends.{TalkEnds}
 use Rattle.satip_talk_command.specs.Runs.{input_limit, NothingDone}
 use Rattle.satip_tunnel_serve.specs.Ends.{Tunnels}
-use Rattle.satip_program.specs.Commands.{Form, Talk, Replay, Stress, Audit, Record, Help, Version, Serving, Serve, Tunnel, Journal, Asked, config_named, recording_in, is_tunnel, is_journal, help, version, line_of}
+use Rattle.satip_program.specs.Commands.{Form, Talk, Replay, Stress, Audit, Record, Help, Version, Serving, Serve, Tunnel, Journal, Asked, config_named, recording_in, is_tunnel, is_journal, help, usage, version}
 use Rattle.satip_program.specs.Ended.{EndedView, served, tunneled, journaled}
 
 -- a text was written as a whole, or in part and the output failed
 abbrev pub IsShown : (tells : Type 0) (o n : Drain) (text : List ℕ) (status : ℕ) → Type 0
 IsShown tells o n text status = ((status ≡ 0) × PutAll tells o n text) ⊎ ((status ≡ 6) × FailedToPut tells o n text)
+
+-- the usage was logged with status 2, and else the line of an outcome with this status
+abbrev pub LogsStatus : (tells : Type 0) (o n : Drain) (status : ℕ) → Type 0
+LogsStatus tells o n status = ((status ≡ 2) × Says tells o n usage) ⊎ Logs tells o n status
 
 -- the outcome of a command that waits for no client, by the form of its words. `d` and `f` are the desk before and after, `s` and `r` the streams. Without such
 -- a command nothing is taken or written
@@ -77,7 +82,7 @@ pub record StatusTells (t : Tells) (asked : Asked) (d f : DeskView) (s r : Strea
   pub no_serving : asked.serving ≡ None → (e.status ≡ 7 → ⊥) × (e.status ≡ 9 → ⊥)
   pub too_long : (e.status ≡ 8) ↔ (input_limit < r.input.taken - s.input.taken)
   pub limit : r.input.taken ≤ s.input.taken + input_limit + 1
-  pub errors : recording_in asked.form ≡ None → (e.status ≡ 3 → ⊥) → (e.status ≡ 4 → ⊥) → Says t.errors s.errors r.errors (line_of e.status)
+  pub errors : recording_in asked.form ≡ None → LogsStatus t.errors s.errors r.errors e.status
 
 -- the outcome of a run, by its words. `d` is the desk before the run and `f` after it, `s` and `r` are the streams before and after, and `e` is what came back
 pub record RunEnds (t : Tells) (asked : Asked) (d f : DeskView) (s r : Streams) (e : EndedView) : Type 0 where

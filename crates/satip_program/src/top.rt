@@ -3,29 +3,30 @@
 ghost use Rattle.std.specs.Prelude.{◌≡◌, ◌⊎◌, ℕ, List, [], Option, Some, None, IfSome, IsSomeAnd, option_map};
 ghost use Rattle.satip_base.specs.Streams.{Rose};
 ghost use Rattle.satip_config.specs.Lines.{Says, configuration_line};
+ghost use Rattle.satip_config.specs.Outcomes.{Logs, line_of, status_of};
 ghost use Rattle.satip_desk.specs.Handed.{nothing_handed};
 ghost use Rattle.satip_desk.specs.Journals.{journals_view};
+ghost use Rattle.satip_desk.specs.Streams.{streams};
 ghost use Rattle.satip_desk.specs.Views.{jobs_view};
-ghost use Rattle.satip_journal.specs.Ends.{JournalEnds, journal_tells, journal_left};
-ghost use Rattle.satip_journal.specs.Ran.{status_of_jobs};
+ghost use Rattle.satip_journal_serve.specs.Ends.{JournalEnds, journal_tells, journal_left};
+ghost use Rattle.satip_journal_serve.specs.Ran.{status_of_jobs};
 ghost use Rattle.satip_recorder.specs.Ends.{left_of};
 ghost use Rattle.satip_tunnel_serve.specs.Serve.CommandEnds.{Serves, serve_tells, serving_left};
-ghost use Rattle.satip_tunnel_serve.specs.Serve.CommandRan.{EndsAtLimit, last_view};
-ghost use Rattle.satip_tunnel_serve.specs.Ends.{Tunnels, tunnel_last_view, tunnel_left, tunnel_tells};
+ghost use Rattle.satip_tunnel_serve.specs.Serve.CommandRan.{EndsAtLimit};
+ghost use Rattle.satip_tunnel_serve.specs.Ends.{Tunnels, tunnel_left, tunnel_tells};
 ghost use Rattle.satip_tunnel_serve.specs.Silences.{no_outbox};
-ghost use Rattle.satip_program.specs.Commands.{Serve, Journal, asked_of, asked_offline, command_of, serving_of, config_named, recording_in, line_of};
-ghost use Rattle.satip_program.specs.Ended.{ended_alone, ended_recording};
+ghost use Rattle.satip_program.specs.Commands.{Serve, Journal, asked_of, asked_offline, command_of, serving_of, config_named, recording_in};
+ghost use Rattle.satip_program.specs.Ended.{ended_alone, ended_recording, ended_view};
 ghost use Rattle.satip_program.specs.Journaling.{IsOfJournal};
 ghost use Rattle.satip_program.specs.Runs.{IsShown, RunEnds};
 
 use crate::commands::{Command, Service, read_service, read_words};
-use crate::serve_end::{status_of_serving, tell_serving};
 use satip_base::{Put, Sink, Source, Text};
-use satip_config::say;
+use satip_config::{Outcome, say};
 use satip_desk::{Desk, Jobs};
-use satip_journal::{Audited, Journaled, audit_by, audit_status_of, journal_by};
+use satip_journal_serve::{AuditCommand, Journaled, journal_by};
 use satip_recorder::{RecordRan as Recorded, record};
-use satip_replay::{Replayed, replay_by};
+use satip_replay::{Batched, ReplayCommand, run_batch};
 use satip_stress::stress_by;
 use satip_talk_command::talk;
 use satip_tunnel_serve::{Last, Served, TunnelLast, Tunneled, serve_by, tunnel_by};
@@ -89,11 +90,11 @@ pub struct Ended<K: Desk> {
     /// The configuration that the desk gave, as far as it was read.
     pub config: Option<K::Config>,
     /// The result of the jobs of a `serve` or a `journal`, if any began.
-    pub last: Option<Last<K::Doors, K::Outlet, K::Pacer, K::Store, K::Clock>>,
+    pub last: Option<Last<Jobs<K>>>,
     /// The result of the jobs of a `tunnel`, if any began.
-    pub tunnel: Option<TunnelLast<K::Doors, K::Outlet, K::Pacer, K::Store, K::Clock>>,
+    pub tunnel: Option<TunnelLast<Jobs<K>>>,
     /// The kits that the desk gave, if no job began.
-    pub unused: Option<Jobs<K::Doors, K::Outlet, K::Pacer, K::Store, K::Clock>>,
+    pub unused: Option<Jobs<K>>,
     /// The connection that the desk gave to a recording, if it gave one.
     pub wire: Option<K::Wire>,
     /// The inlet that the desk gave to a recording, if it gave one.
@@ -149,30 +150,13 @@ pub fn satip<R: Threads + Wait + Sync, K: Desk, I: Source, O: Sink, E: Sink>(
         })
         (asked_of words.now)
         (K.desk desk.old) (K.desk desk.new)
-        (record {
-          input = I.feed input.old;
-          output = O.drain output.old;
-          errors = E.drain errors.old;
-        })
-        (record {
-          input = I.feed input.new;
-          output = O.drain output.new;
-          errors = E.drain errors.new;
-        })
-        (record {
-          source = option_map K.Config.feed result.config;
-          last = option_map (last_view
-              (jobs_view K.Doors.hall K.Outlet.outbox K.Store.shelf K.Clock.dial)) result.last;
-          tunnel = option_map (tunnel_last_view
-              (jobs_view K.Doors.hall K.Outlet.outbox K.Store.shelf K.Clock.dial)
-              (jobs_view K.Doors.hall no_outbox K.Store.shelf K.Clock.dial)) result.tunnel;
-          unused = option_map
-              (jobs_view K.Doors.hall K.Outlet.outbox K.Store.shelf K.Clock.dial) result.unused;
-          left = left_of K.Wire.line K.Moment.dial K.Inlet.inbox
-              result.wire result.moment result.inlet;
-          journals = journals_view K.Journal.job K.Journal.drain result.journals.items;
-          status = result.status;
-        }) }
+        (streams I.feed O.drain E.drain input.old output.old errors.old)
+        (streams I.feed O.drain E.drain input.new output.new errors.new)
+        (ended_view K.Config.feed
+        (jobs_view K.Doors.hall K.Outlet.outbox K.Store.shelf K.Clock.dial)
+        (jobs_view K.Doors.hall no_outbox K.Store.shelf K.Clock.dial)
+        (left_of K.Wire.line K.Moment.dial K.Inlet.inbox)
+        (journals_view K.Journal.job K.Journal.drain) result) }
 
     // A command that asks nothing of the desk leaves the desk itself as it was.
     ensures nothing { serving_of words.now ≡ None → config_named (command_of words.now) ≡ None
@@ -233,9 +217,7 @@ fn run_journal<R: Threads + Wait + Sync, K: Desk, E: Sink>(
     ensures input_fault { result.status ≡ 5 → Rose (K.desk desk.old).faults (K.desk desk.new).faults
         ⊎ IsSomeAnd (option_map K.Config.feed result.config) (λ source. Rose 0 source.faults) }
     ensures no_client { (result.wire ≡ None) × (result.inlet ≡ None) × (result.moment ≡ None) }
-    ensures errors { (result.status ≡ 3 → ⊥) → Says E.tells
-        (E.drain errors.old) (E.drain errors.new)
-        (line_of result.status) }
+    ensures logs { Logs E.tells (E.drain errors.old) (E.drain errors.new) result.status }
 {
     let Journaled {
         end,
@@ -245,7 +227,7 @@ fn run_journal<R: Threads + Wait + Sync, K: Desk, E: Sink>(
         journals,
     } = journal_by(rt, alloc, name, accepts, errors, desk);
     Ended {
-        status: end.status(),
+        status: end.outcome().status(),
         config,
         last,
         tunnel: None,
@@ -284,9 +266,7 @@ fn run_serve<R: Threads + Wait + Sync, K: Desk, E: Sink>(
     ensures no_client { (result.wire ≡ None) × (result.inlet ≡ None) × (result.moment ≡ None) }
     ensures no_journals { result.journals.items ≡ [] }
     ensures no_tunnel { result.tunnel ≡ None }
-    ensures errors { (result.status ≡ 3 → ⊥) → Says E.tells
-        (E.drain errors.old) (E.drain errors.new)
-        (line_of result.status) }
+    ensures logs { Logs E.tells (E.drain errors.old) (E.drain errors.new) result.status }
 {
     let Served {
         end,
@@ -294,9 +274,10 @@ fn run_serve<R: Threads + Wait + Sync, K: Desk, E: Sink>(
         last,
         unused,
     } = serve_by(rt, alloc, name, accepts, desk);
-    tell_serving(end, errors);
+    let outcome = end.outcome();
+    outcome.tell(errors);
     Ended {
-        status: status_of_serving(end),
+        status: outcome.status(),
         config,
         last,
         tunnel: None,
@@ -333,9 +314,7 @@ fn run_tunnel<R: Threads + Wait + Sync, K: Desk, E: Sink>(
     ensures no_client { (result.wire ≡ None) × (result.inlet ≡ None) × (result.moment ≡ None) }
     ensures no_journals { result.journals.items ≡ [] }
     ensures no_last { result.last ≡ None }
-    ensures errors { (result.status ≡ 3 → ⊥) → Says E.tells
-        (E.drain errors.old) (E.drain errors.new)
-        (line_of result.status) }
+    ensures logs { Logs E.tells (E.drain errors.old) (E.drain errors.new) result.status }
 {
     let Tunneled {
         end,
@@ -343,9 +322,10 @@ fn run_tunnel<R: Threads + Wait + Sync, K: Desk, E: Sink>(
         last,
         unused,
     } = tunnel_by(rt, alloc, name, accepts, desk);
-    tell_serving(end, errors);
+    let outcome = end.outcome();
+    outcome.tell(errors);
     Ended {
-        status: status_of_serving(end),
+        status: outcome.status(),
         config,
         last: None,
         tunnel: last,
@@ -384,30 +364,13 @@ pub fn offline<K: Desk, I: Source, O: Sink, E: Sink>(
         })
         (asked_offline words.now)
         (K.desk desk.old) (K.desk desk.new)
-        (record {
-          input = I.feed input.old;
-          output = O.drain output.old;
-          errors = E.drain errors.old;
-        })
-        (record {
-          input = I.feed input.new;
-          output = O.drain output.new;
-          errors = E.drain errors.new;
-        })
-        (record {
-          source = option_map K.Config.feed result.config;
-          last = option_map (last_view
-              (jobs_view K.Doors.hall K.Outlet.outbox K.Store.shelf K.Clock.dial)) result.last;
-          tunnel = option_map (tunnel_last_view
-              (jobs_view K.Doors.hall K.Outlet.outbox K.Store.shelf K.Clock.dial)
-              (jobs_view K.Doors.hall no_outbox K.Store.shelf K.Clock.dial)) result.tunnel;
-          unused = option_map
-              (jobs_view K.Doors.hall K.Outlet.outbox K.Store.shelf K.Clock.dial) result.unused;
-          left = left_of K.Wire.line K.Moment.dial K.Inlet.inbox
-              result.wire result.moment result.inlet;
-          journals = journals_view K.Journal.job K.Journal.drain result.journals.items;
-          status = result.status;
-        }) }
+        (streams I.feed O.drain E.drain input.old output.old errors.old)
+        (streams I.feed O.drain E.drain input.new output.new errors.new)
+        (ended_view K.Config.feed
+        (jobs_view K.Doors.hall K.Outlet.outbox K.Store.shelf K.Clock.dial)
+        (jobs_view K.Doors.hall no_outbox K.Store.shelf K.Clock.dial)
+        (left_of K.Wire.line K.Moment.dial K.Inlet.inbox)
+        (journals_view K.Journal.job K.Journal.drain) result) }
     ensures nothing { config_named (command_of words.now) ≡ None
         → recording_in (command_of words.now) ≡ None → desk.new ≡ desk.old }
 {
@@ -417,51 +380,64 @@ pub fn offline<K: Desk, I: Source, O: Sink, E: Sink>(
             without_jobs(alloc, 2, None)
         }
         Some(Command::Talk) => {
-            let end = talk(alloc, input, output, errors);
-            without_jobs(alloc, satip_talk_command::status_of(end), None)
+            let outcome = talk(alloc, input, output, errors);
+            without_jobs(alloc, outcome.status(), None)
         }
         Some(Command::Replay(name)) => {
-            let Replayed { end, config } = replay_by(alloc, name, input, output, errors, desk);
-            without_jobs(alloc, satip_replay::status_of(end), config)
+            let Batched { outcome, config } = run_batch(
+                &ReplayCommand,
+                alloc,
+                name,
+                input,
+                output,
+                errors,
+                desk,
+            );
+            without_jobs(alloc, outcome.status(), config)
         }
         Some(Command::Stress { seed, count }) => {
-            let end = stress_by(alloc, seed, count, output, errors);
-            without_jobs(alloc, satip_stress::status_of(end), None)
+            let outcome = stress_by(alloc, seed, count, output, errors);
+            without_jobs(alloc, outcome.status(), None)
         }
         Some(Command::Audit(name)) => {
-            let Audited { end, config } = audit_by(alloc, name, input, output, errors, desk);
-            without_jobs(alloc, audit_status_of(end), config)
+            let Batched { outcome, config } = run_batch(
+                &AuditCommand,
+                alloc,
+                name,
+                input,
+                output,
+                errors,
+                desk,
+            );
+            without_jobs(alloc, outcome.status(), config)
         }
         Some(Command::Record(recording)) => {
             let Recorded {
-                end,
+                outcome,
                 wire,
                 inlet,
                 moment,
             } = record(alloc, &recording, output, errors, desk);
-            with_client(alloc, end.status(), wire, inlet, moment)
+            with_client(alloc, outcome.status(), wire, inlet, moment)
         }
-        Some(Command::Help) => without_jobs(alloc, show(HELP, output, errors), None),
-        Some(Command::Version) => without_jobs(alloc, show(VERSION, output, errors), None),
+        Some(Command::Help) => {
+            let outcome = show(HELP, output, errors);
+            without_jobs(alloc, outcome.status(), None)
+        }
+        Some(Command::Version) => {
+            let outcome = show(VERSION, output, errors);
+            without_jobs(alloc, outcome.status(), None)
+        }
     }
 }
 
 // Returns the end of a run that has no jobs and no client.
 fn without_jobs<K: Desk>(alloc: Global, status: u8, config: Option<K::Config>) -> Ended<K>
-    ensures ended { record {
-      source = option_map K.Config.feed result.config;
-      last = option_map (last_view
-          (jobs_view K.Doors.hall K.Outlet.outbox K.Store.shelf K.Clock.dial)) result.last;
-      tunnel = option_map (tunnel_last_view
-          (jobs_view K.Doors.hall K.Outlet.outbox K.Store.shelf K.Clock.dial)
-          (jobs_view K.Doors.hall no_outbox K.Store.shelf K.Clock.dial)) result.tunnel;
-      unused = option_map
-          (jobs_view K.Doors.hall K.Outlet.outbox K.Store.shelf K.Clock.dial) result.unused;
-      left = left_of K.Wire.line K.Moment.dial K.Inlet.inbox
-          result.wire result.moment result.inlet;
-      journals = journals_view K.Journal.job K.Journal.drain result.journals.items;
-      status = result.status;
-    }
+    ensures ended { ended_view K.Config.feed
+        (jobs_view K.Doors.hall K.Outlet.outbox K.Store.shelf K.Clock.dial)
+        (jobs_view K.Doors.hall no_outbox K.Store.shelf K.Clock.dial)
+        (left_of K.Wire.line K.Moment.dial K.Inlet.inbox)
+        (journals_view K.Journal.job K.Journal.drain) result
         ≡ ended_alone (option_map K.Config.feed config) status }
 {
     Ended {
@@ -485,20 +461,11 @@ fn with_client<K: Desk>(
     inlet: Option<K::Inlet>,
     moment: Option<K::Moment>,
 ) -> Ended<K>
-    ensures ended { record {
-      source = option_map K.Config.feed result.config;
-      last = option_map (last_view
-          (jobs_view K.Doors.hall K.Outlet.outbox K.Store.shelf K.Clock.dial)) result.last;
-      tunnel = option_map (tunnel_last_view
-          (jobs_view K.Doors.hall K.Outlet.outbox K.Store.shelf K.Clock.dial)
-          (jobs_view K.Doors.hall no_outbox K.Store.shelf K.Clock.dial)) result.tunnel;
-      unused = option_map
-          (jobs_view K.Doors.hall K.Outlet.outbox K.Store.shelf K.Clock.dial) result.unused;
-      left = left_of K.Wire.line K.Moment.dial K.Inlet.inbox
-          result.wire result.moment result.inlet;
-      journals = journals_view K.Journal.job K.Journal.drain result.journals.items;
-      status = result.status;
-    }
+    ensures ended { ended_view K.Config.feed
+        (jobs_view K.Doors.hall K.Outlet.outbox K.Store.shelf K.Clock.dial)
+        (jobs_view K.Doors.hall no_outbox K.Store.shelf K.Clock.dial)
+        (left_of K.Wire.line K.Moment.dial K.Inlet.inbox)
+        (journals_view K.Journal.job K.Journal.drain) result
         ≡ ended_recording (left_of K.Wire.line K.Moment.dial K.Inlet.inbox wire moment inlet)
         status }
 {
@@ -516,17 +483,19 @@ fn with_client<K: Desk>(
 }
 
 // Writes a text, and logs if the output failed.
-fn show<O: Sink, E: Sink>(text: &[u8], output: &mut O, errors: &mut E) -> u8
-    ensures shows { IsShown O.tells (O.drain output.old) (O.drain output.new) text.now result }
+fn show<O: Sink, E: Sink>(text: &[u8], output: &mut O, errors: &mut E) -> Outcome
+    ensures shows { IsShown O.tells
+        (O.drain output.old) (O.drain output.new)
+        text.now (status_of result) }
     ensures says { Says E.tells
         (E.drain errors.old) (E.drain errors.new)
         (line_of result) }
 {
     match output.put(text) {
-        Put::Whole => 0,
+        Put::Whole => Outcome::Done,
         Put::Failed => {
-            say(b"output fault\n", errors);
-            6
+            Outcome::OutputFault.tell(errors);
+            Outcome::OutputFault
         }
     }
 }

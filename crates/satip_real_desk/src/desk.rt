@@ -7,7 +7,7 @@ ghost use Rattle.satip_base.specs.Streams.{fresh_feed};
 use crate::fault::KitsFault;
 use crate::kits::{RealJobs, real_kits};
 use satip_base::{Address, Failed, Peer, ReadSource, Sink, Source, Taken, Text, WriteSink};
-use satip_desk::{Desk, JobJournal, Jobs, JobsFault};
+use satip_desk::{Desk, Devices, JobJournal, JobsFault};
 use satip_host::RealClock;
 use satip_playout::{RealPacer, RealStore};
 use satip_real::{RealConn, RealDoors, RealInlet, RealOutlet};
@@ -116,12 +116,7 @@ fn open(files: &impl Files<File = File>, name: &Text) -> Option<ConfigFile>
     })
 }
 
-impl<R: Wait + Copy + Drop + Send> Desk for RealDesk<R> {
-    ghost use Rattle.std.specs.Prelude.{None, option_map};
-    ghost use Rattle.satip_real_desk.specs.RealViews.{real_view};
-
-    type Config = ConfigFile;
-
+impl<R: Wait + Copy + Drop + Send> Devices for RealDesk<R> {
     type Doors = RealDoors;
 
     type Outlet = RealOutlet<R>;
@@ -131,6 +126,13 @@ impl<R: Wait + Copy + Drop + Send> Desk for RealDesk<R> {
     type Store = RealStore;
 
     type Clock = RealClock;
+}
+
+impl<R: Wait + Copy + Drop + Send> Desk for RealDesk<R> {
+    ghost use Rattle.std.specs.Prelude.{None, option_map};
+    ghost use Rattle.satip_real_desk.specs.RealViews.{real_view};
+
+    type Config = ConfigFile;
 
     type Wire = RealConn;
 

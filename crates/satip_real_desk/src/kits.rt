@@ -7,7 +7,7 @@ ghost use Rattle.satip_real_desk.specs.Unused.{IsUnusedWorker, IsUnusedPump, IsU
 use crate::fault::KitsFault;
 use crate::ready::{recording_lengths, report_ready};
 use crate::shared::Shared;
-use satip_desk::{Jobs, PumpKit, TickKit, WorkerKit};
+use satip_desk::{JobKits, PumpKit, TickKit, WorkerKit};
 use satip_host::{RealClock, read_key};
 use satip_playout::{RealPacer, RealStore};
 use satip_real::{RealDoors, RealOutlet};
@@ -17,7 +17,7 @@ use std::sync::Wait;
 
 /// The kits of jobs over the system. Their doors share two listeners, their outlets one table of
 /// UDP sockets.
-pub type RealJobs<R> = Jobs<RealDoors, RealOutlet<R>, RealPacer, RealStore, RealClock>;
+pub type RealJobs<R> = JobKits<RealDoors, RealOutlet<R>, RealPacer, RealStore, RealClock>;
 
 fn worker_kit<R: Wait + Drop>(
     host: HostRuntime,
@@ -123,7 +123,7 @@ pub fn real_kits<R: Wait + Copy + Drop>(
     let alloc = host.alloc();
     let shared = Shared::open(&host, alloc, config)?;
     let lengths = recording_lengths(alloc, &shared.store(host, None)?, &config.files)?;
-    let kits = Jobs {
+    let kits = JobKits {
         workers: worker_kits(host, rt, alloc, &shared, config.workers, accepts)?,
         pumps: pump_kits(host, rt, alloc, &shared, config.fronts.len())?,
         tick: tick_kit(host, rt, &shared)?,

@@ -4,11 +4,12 @@ use Rattle.satip_base.specs.Streams.{Feed, Drain}
 use Rattle.satip_world.specs.Dials.{Dial, fresh_dial}
 use Rattle.satip_world.specs.Lines.{Line, fresh_line}
 use Rattle.satip_world.specs.Inboxes.{Inbox, fresh_inbox}
-use Rattle.satip_client.specs.Ends.{status_of}
+use Rattle.satip_config.specs.Outcomes.{status_of}
 use Rattle.satip_client.specs.declared.ending.RecordEnd.{RecordEnd}
 use Rattle.satip_client.specs.declared.ending.RecordEnd.TheVariants.{Done, OutputFault, Refused, BadReply, Silent, PeerFault, Closed, OutOfMemory}
 use Rattle.satip_desk.specs.Streams.{Streams}
 use Rattle.satip_desk.specs.Views.{DeskView}
+use Rattle.satip_recorder.specs.Outcomes.{outcome_of}
 use Rattle.satip_recorder.specs.Outsides.{DeviceTells, Outside, Task, outside, task}
 use Rattle.satip_recorder.specs.Recordings.{Records, Ends}
 use Rattle.satip_recorder.specs.Words.{Wanted}
@@ -50,7 +51,7 @@ all_left line clock inlet = record { wire = Some line; clock = Some clock; inlet
 given_ends : (k : DeviceTells) (w : Wanted) (d f : DeskView) (line : Line) (clock : Dial) (inlet : Inbox) (i : Feed) (o n e m : Drain) (end : RecordEnd)
     → f.handed.wire ≡ Some w.to → f.handed.moment ≡ true → f.handed.inlet ≡ true → f.faults ≡ d.faults
     → Ran k w (Some (outside line clock inlet n)) (streams i o e) (streams i n m) end
-    → RecordingEnds k w d f (streams i o e) (streams i n m) (all_left line clock inlet) (status_of end)
+    → RecordingEnds k w d f (streams i o e) (streams i n m) (all_left line clock inlet) (status_of (outcome_of end))
 given_ends k w d f line clock inlet i o n e m Done wire moment inside same ran = record {
   status_is = inl refl;
   input = refl;
@@ -194,7 +195,7 @@ pub all_given : (k : DeviceTells) (w : Wanted) (d f : DeskView) (line line2 : Li
     → line ≡ fresh_line → clock.readings ≡ [] → inlet ≡ fresh_inbox inlet.port
     → Ends k.errors e m end (λ (lines : List ℕ).
     Records k (outside line clock inlet o) (outside line2 clock2 inlet2 n) (task w.address w.query w.count) lines end)
-    → RecordingEnds k w d f (streams i o e) (streams i n m) (all_left line2 clock2 inlet2) (status_of end)
+    → RecordingEnds k w d f (streams i o e) (streams i n m) (all_left line2 clock2 inlet2) (status_of (outcome_of end))
 all_given k w d f line line2 clock clock2 inlet inlet2 i o n e m end wire moment inside same line_new clock_new inlet_new ended =
     let a : Outside = outside line clock inlet o in
     let b : Outside = outside line2 clock2 inlet2 n in

@@ -16,14 +16,17 @@ use Rattle.satip_client.specs.declared.ending.RecordEnd.{RecordEnd}
 use Rattle.satip_client.specs.declared.ending.RecordEnd.TheVariants.{Done, OutputFault, Refused, BadReply, Silent, PeerFault, Closed, OutOfMemory}
 use Rattle.satip_client.specs.declared.pulse.Pulse.{Pulse}
 use Rattle.satip_client.specs.Pulses.{talk}
-use Rattle.satip_client.specs.Ends.{line_for}
+use Rattle.satip_config.specs.Lines.{Says}
+use Rattle.satip_config.specs.Outcomes.{line_of}
+use Rattle.satip_config.specs.declared.outcome.Outcome.TheVariants as outcomes
 use Rattle.satip_client.proofs.PulseLemmas.{grew_then}
 use Rattle.satip_recorder.specs.Tapes.{gap_lines, packets_in, Tells}
 use Rattle.satip_recorder.specs.Arrivals.{AreRead}
+use Rattle.satip_recorder.specs.Outcomes.{outcome_of}
 use Rattle.satip_recorder.specs.Outsides.{DeviceTells, Link, Outside, SetupWords, Task, outside, setup_words, task}
 use Rattle.satip_recorder.specs.Courses.{Station, reel, station, ReadsAll, options_sent, Course, Stopped}
 use Rattle.satip_recorder.specs.Openings.{Opened, EndsOpening, Leaves, LeavesNot}
-use Rattle.satip_recorder.specs.Recordings.{bytes_of, turn_limit, fresh_tape, link_of, first_pulse, Opening, Filled, EndedLeaving, EndedReceiving, EndedOpening, Records, Runs, Said, Ends, LeaveCause, end_for}
+use Rattle.satip_recorder.specs.Recordings.{bytes_of, turn_limit, fresh_tape, link_of, first_pulse, Opening, Filled, EndedLeaving, EndedReceiving, EndedOpening, Records, Runs, Ends, LeaveCause, end_for}
 use Rattle.satip_recorder.specs.declared.tape.Tape.{Tape}
 use Rattle.satip_recorder.proofs.ArrivalLemmas.{small, turns-none}
 use Rattle.satip_recorder.proofs.CourseLemmas.{cause-after}
@@ -178,7 +181,7 @@ leaving-records k o n w lines PeerFault is = inr (inr is)
 leaving-records k o n w lines Closed is = absurd is.cause
 leaving-records k o n w lines OutOfMemory is = absurd is.cause
 
-pub said-of : (tells : Type 0) (o n : Drain) (lines : List ℕ) (muted : Bool) → Tells tells o n lines false muted → Said tells o n lines
+pub said-of : (tells : Type 0) (o n : Drain) (lines : List ℕ) (muted : Bool) → Tells tells o n lines false muted → Says tells o n lines
 said-of tells o n lines false told = inl told
 said-of tells o n lines true told = inr told
 
@@ -265,17 +268,17 @@ runs_leaving k o m x mark r n w terms (Err end) opened course full is =
 
 -- the line of the end follows
 pub ends : (k : DeviceTells) (o n : Outside) (r m s : Drain) (w : Task) (muted silent : Bool) (result : Result (Unit {0}) RecordEnd) (end : RecordEnd)
-    → end ≡ end_for result → Runs k o n r m w muted result → Tells k.errors m s (line_for end) muted silent
+    → end ≡ end_for result → Runs k o n r m w muted result → Tells k.errors m s (line_of (outcome_of end)) muted silent
     → Ends k.errors r s end (λ (lines : List ℕ). Records k o n w lines end)
 ends k o n r m s w muted silent result end is run told = record {
   lines = run.lines;
   comes = subst (λ (x : RecordEnd). Records k o n w run.lines x) (sym is) run.records;
-  said = said-of k.errors r s (run.lines ++ line_for end) silent
-      (tells-then k.errors r m s run.lines (line_for end) false muted silent run.told told);
+  said = said-of k.errors r s (run.lines ++ line_of (outcome_of end)) silent
+      (tells-then k.errors r m s run.lines (line_of (outcome_of end)) false muted silent run.told told);
 }
 
 pub ends_unbegun : (k : DeviceTells) (o : Outside) (r s : Drain) (w : Task) (end : RecordEnd) → end ≡ OutOfMemory
-    → Said k.errors r s (line_for OutOfMemory) → Ends k.errors r s end (λ (lines : List ℕ). Records k o o w lines end)
+    → Says k.errors r s (line_of outcomes.OutOfMemory) → Ends k.errors r s end (λ (lines : List ℕ). Records k o o w lines end)
 ends_unbegun k o r s w end is said =
     subst (λ (x : RecordEnd). Ends k.errors r s x (λ (lines : List ℕ). Records k o o w lines x)) (sym is) (record {
       lines = [];

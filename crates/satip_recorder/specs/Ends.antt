@@ -6,13 +6,15 @@ use Rattle.satip_world.specs.Counts.{Rises}
 use Rattle.satip_world.specs.Dials.{Dial, fresh_dial}
 use Rattle.satip_world.specs.Lines.{Line, fresh_line}
 use Rattle.satip_world.specs.Inboxes.{Inbox, fresh_inbox}
-use Rattle.satip_client.specs.Ends.{line_for}
+use Rattle.satip_config.specs.Lines.{Says}
+use Rattle.satip_config.specs.Outcomes.{line_of}
+use Rattle.satip_config.specs.declared.outcome.Outcome.TheVariants as outcomes
 use Rattle.satip_client.specs.declared.ending.RecordEnd.{RecordEnd}
 use Rattle.satip_client.specs.declared.ending.RecordEnd.TheVariants.{Done, OutputFault, Refused, BadReply, Silent, PeerFault, Closed, OutOfMemory}
 use Rattle.satip_desk.specs.Streams.{Streams, Tells}
 use Rattle.satip_desk.specs.Views.{DeskView}
 use Rattle.satip_recorder.specs.Outsides.{DeviceTells, Outside, device_tells, outside, task}
-use Rattle.satip_recorder.specs.Recordings.{Records, Said, Ends}
+use Rattle.satip_recorder.specs.Recordings.{Records, Ends}
 use Rattle.satip_recorder.specs.Words.{Wanted}
 
 -- the statuses of a recording
@@ -42,9 +44,9 @@ abbrev pub outside_left : Left → Drain → Option Outside
 outside_left left output = outside_of left.wire left.clock left.inlet output
 
 -- a fact about an unused connection, clock and inlet of this port, and the output
-pub record FromNew (port : ℕ) (output : Drain) (Says : Outside → Type 0) : Type 0 where
+pub record FromNew (port : ℕ) (output : Drain) (Holds : Outside → Type 0) : Type 0 where
   pub told : Bool
-  pub said : Says (outside fresh_line (fresh_dial told) (fresh_inbox port) output)
+  pub said : Holds (outside fresh_line (fresh_dial told) (fresh_inbox port) output)
 
 -- a recording with these three ended so; the inlet's port before is the one after
 abbrev pub Ran : (k : DeviceTells) → Wanted → Option Outside → (s r : Streams) → RecordEnd → Type 0
@@ -58,7 +60,7 @@ pub record NotGiven (error_tells : Type 0) (d f : DeskView) (s r : Streams) (lef
   pub wire : IfSome left.wire (λ line. line ≡ fresh_line)
   pub clock : IsSomeAnd left.clock (λ dial. dial.readings ≡ [])
   pub output : r.output ≡ s.output
-  pub said : Said error_tells s.errors r.errors (line_for PeerFault)
+  pub said : Says error_tells s.errors r.errors (line_of outcomes.PeerFault)
 
 -- the outcome of a recording: the wanted stream, the desk before and after, the input, the output and the error sink before and after, what is left of the
 -- devices that the desk gave, and the status

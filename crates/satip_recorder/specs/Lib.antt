@@ -1,3 +1,4 @@
+pub mod Outcomes
 pub mod Outsides
 pub mod Tapes
 pub mod Arrivals

@@ -1,6 +1,6 @@
 -- A whole recording: its requests, its datagrams, its output and lines, and its end.
 use Rattle.std.specs.Prelude.{◌≡◌, ℕ, ◌+◌, ◌*◌, ◌<◌, ◌≤◌, ◌⊎◌, Bool, false, List, [], ◌∷◌, ◌++◌, length, take, drop, Result, Ok, Err}
-use Rattle.satip_base.specs.Streams.{Drain, PutAll, FailedToPut}
+use Rattle.satip_base.specs.Streams.{Drain, PutAll}
 use Rattle.satip_world.specs.Counts.{Rises}
 use Rattle.satip_world.specs.Lines.{Line, Grew}
 use Rattle.satip_rtp_receiver.specs.Caught.{Datagram, caught}
@@ -8,12 +8,14 @@ use Rattle.satip_rtp_receiver.specs.Catching.{catching}
 use Rattle.satip_rtp_receiver.specs.declared.item.Item.{Item}
 use Rattle.satip_client.specs.Requests.{setup_request, play_request, teardown_request}
 use Rattle.satip_client.specs.Exchanges.{HasGrant, HasAnswer}
-use Rattle.satip_client.specs.Ends.{line_for}
+use Rattle.satip_config.specs.Lines.{Says}
+use Rattle.satip_config.specs.Outcomes.{line_of}
 use Rattle.satip_client.specs.Leases.{Terms}
 use Rattle.satip_client.specs.Waits.{IsUpToPiece}
 use Rattle.satip_client.specs.declared.pulse.Pulse.{Pulse}
 use Rattle.satip_client.specs.declared.ending.RecordEnd.{RecordEnd}
 use Rattle.satip_client.specs.declared.ending.RecordEnd.TheVariants.{Done, OutputFault, Refused, BadReply, Silent, PeerFault, Closed, OutOfMemory}
+use Rattle.satip_recorder.specs.Outcomes.{outcome_of}
 use Rattle.satip_recorder.specs.Outsides.{DeviceTells, Link, Outside, Task, link, setup_words}
 use Rattle.satip_recorder.specs.Tapes.{gap_lines, packets_in, Tells}
 use Rattle.satip_recorder.specs.Arrivals.{AreRead}
@@ -174,12 +176,8 @@ pub record Runs (k : DeviceTells) (o n : Outside) (r s : Drain) (w : Task) (mute
   pub records : Records k o n w lines (end_for result)
   pub told : Tells k.errors r s lines false muted
 
--- these lines were logged, or a prefix of them if the sink failed
-abbrev pub Said : (tells : Type 0) (o n : Drain) (lines : List ℕ) → Type 0
-Said tells o n lines = PutAll tells o n lines ⊎ FailedToPut tells o n lines
-
 -- a recording had this outcome; the lines of its gaps were logged, and then that of its end
 pub record Ends (tells : Type 0) (r s : Drain) (end : RecordEnd) (Comes : List ℕ → Type 0) : Type 0 where
   pub lines : List ℕ
   pub comes : Comes lines
-  pub said : Said tells r s (lines ++ line_for end)
+  pub said : Says tells r s (lines ++ line_of (outcome_of end))

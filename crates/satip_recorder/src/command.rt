@@ -2,32 +2,33 @@
 
 ghost use Rattle.std.specs.Prelude.{◌≡◌, ◌≤◌};
 ghost use Rattle.satip_base.specs.Streams.{Feed};
-ghost use Rattle.satip_client.specs.Ends.{line_for, status_of};
-ghost use Rattle.satip_recorder.specs.Recordings.{Said};
+ghost use Rattle.satip_config.specs.Lines.{Says};
+ghost use Rattle.satip_config.specs.Outcomes.{line_of, status_of};
 ghost use Rattle.satip_recorder.specs.Ends.{RecordingEnds, left_of};
 ghost use Rattle.satip_recorder.specs.Outsides.{device_tells};
 ghost use Rattle.satip_recorder.specs.Words.{wanted};
 ghost use Rattle.satip_desk.specs.Handed.{nothing_handed};
 
+use crate::outcome::outcome_of;
 use crate::recording_run::record_by;
 use crate::wish::Wish;
 use crate::words::Recording;
-use satip_base::{Failed, Sink, Strip};
-use satip_client::RecordEnd;
+use satip_base::{Failed, Sink};
+use satip_config::Outcome;
 use satip_desk::Desk;
 use std::alloc::Global;
 
-/// How a recording ended, with the connection, the inlet and the clock that the desk gave for it.
+/// The outcome of a recording, with the connection, the inlet and the clock that the desk gave for it.
 pub struct Recorded<K: Desk> {
-    pub end: RecordEnd,
+    pub outcome: Outcome,
     pub wire: Option<K::Wire>,
     pub inlet: Option<K::Inlet>,
     pub moment: Option<K::Moment>,
 }
 
 /// Records with the clock, the connection to the address and the inlet that the desk gives, in this
-/// order. The end is `PeerFault` if the desk doesn't give the connection or the inlet. Logs a line
-/// for each gap, and then the line of the end, unless it is `Done`.
+/// order. The outcome is `PeerFault` if the desk doesn't give the connection or the inlet. Logs a line
+/// for each gap, and then the line of the outcome.
 pub fn record<K: Desk, O: Sink, E: Sink>(
     alloc: Global,
     recording: &Recording,
@@ -47,7 +48,7 @@ pub fn record<K: Desk, O: Sink, E: Sink>(
         (record { input = input; output = O.drain output.old; errors = E.drain errors.old })
         (record { input = input; output = O.drain output.new; errors = E.drain errors.new })
         (left_of K.Wire.line K.Moment.dial K.Inlet.inbox result.wire result.moment result.inlet)
-        (status_of result.end) }
+        (status_of result.outcome) }
 {
     let moment = desk.moment();
     let wire = match desk.dial(recording.to) {
@@ -65,32 +66,30 @@ pub fn record<K: Desk, O: Sink, E: Sink>(
     };
     let recorded = record_by(alloc, wire, inlet, moment, &wish, output, errors);
     Recorded {
-        end: recorded.end,
+        outcome: outcome_of(recorded.end),
         wire: Some(recorded.wire),
         inlet: Some(recorded.inlet),
         moment: Some(recorded.moment),
     }
 }
 
-// Returns the end of a recording for which the desk gave no connection or no inlet, and logs its
+// Returns the outcome of a recording for which the desk gave no connection or no inlet, and logs its
 // line.
 fn not_given<K: Desk, E: Sink>(
     wire: Option<K::Wire>,
     moment: K::Moment,
     errors: &mut E,
 ) -> Recorded<K>
-    ensures end { result.end ≡ RecordEnd.PeerFault }
+    ensures outcome { result.outcome ≡ Outcome.PeerFault }
     ensures wire { result.wire ≡ wire }
     ensures moment { result.moment ≡ Some moment }
     ensures inlet { result.inlet ≡ None }
-    ensures said { Said E.tells (E.drain errors.old) (E.drain errors.new)
-        (line_for RecordEnd.PeerFault) }
+    ensures said { Says E.tells (E.drain errors.old) (E.drain errors.new)
+        (line_of Outcome.PeerFault) }
 {
-    let mut line = Strip::new();
-    RecordEnd::PeerFault.print(&mut line);
-    errors.put(line.bytes());
+    Outcome::PeerFault.tell(errors);
     Recorded {
-        end: RecordEnd::PeerFault,
+        outcome: Outcome::PeerFault,
         wire,
         inlet: None,
         moment: Some(moment),

@@ -6,6 +6,7 @@
 
 mod command;
 mod opening;
+mod outcome;
 mod recorder;
 mod recording_run;
 mod tape;

@@ -2,18 +2,22 @@
 
 ghost use Rattle.std.specs.Prelude.{◌≡◌, ℕ, ◌+◌, ◌<◌, ◌≤◌, false, List};
 ghost use Rattle.satip_rtp_receiver.specs.Catching.{catching};
-ghost use Rattle.satip_client.specs.Ends.{line_for};
+ghost use Rattle.satip_config.specs.Lines.{Says};
+ghost use Rattle.satip_config.specs.Outcomes.{line_of};
+ghost use Rattle.satip_recorder.specs.Outcomes.{outcome_of as outcome_for};
 ghost use Rattle.satip_recorder.specs.Outsides.{device_tells, outside, task};
-ghost use Rattle.satip_recorder.specs.Recordings.{Ends, IsFresh, Records, Runs, Said, end_for};
+ghost use Rattle.satip_recorder.specs.Recordings.{Ends, IsFresh, Records, Runs, end_for};
 ghost use Rattle.satip_recorder.specs.Tapes.{Tells};
 
 use crate::opening::{leave, open};
+use crate::outcome::outcome_of;
 use crate::recorder::Recorder;
 use crate::tape::{Tape, tell};
 use crate::turns::receive;
 use crate::wish::Wish;
 use satip_base::{Sink, Strip};
 use satip_client::RecordEnd;
+use satip_config::Outcome;
 use satip_world::{Clock, Conn, Inlet};
 use std::alloc::Global;
 
@@ -69,11 +73,11 @@ fn end_of(outcome: Result<(), RecordEnd>) -> RecordEnd
 
 // Logs the line of an end.
 fn say<E: Sink>(end: RecordEnd, tape: &mut Tape, errors: &mut E)
-    ensures tells { Tells E.tells (E.drain errors.old) (E.drain errors.new) (line_for end)
+    ensures tells { Tells E.tells (E.drain errors.old) (E.drain errors.new) (line_of (outcome_for end))
         tape.old.muted tape.new.muted }
 {
     let mut line = Strip::new();
-    end.print(&mut line);
+    outcome_of(end).print(&mut line);
     if line.bytes().is_empty() {
         return;
     }
@@ -83,8 +87,8 @@ fn say<E: Sink>(end: RecordEnd, tape: &mut Tape, errors: &mut E)
 // Logs that memory was refused before the recording began.
 fn say_want<E: Sink>(errors: &mut E) -> RecordEnd
     ensures end { result ≡ RecordEnd.OutOfMemory }
-    ensures said { Said E.tells (E.drain errors.old) (E.drain errors.new)
-        (line_for RecordEnd.OutOfMemory) }
+    ensures said { Says E.tells (E.drain errors.old) (E.drain errors.new)
+        (line_of Outcome.OutOfMemory) }
 {
     let mut tape = Tape {
         left: 0,

@@ -1,4 +1,3 @@
 pub mod BatchLemmas
 pub mod EndLemmas
 mod RunLemmas
-pub mod CommandEndLemmas

@@ -1,4 +1,4 @@
--- The ends of a replay.
+-- The outcomes of a replay.
 use Rattle.std.specs.Prelude.{◌≡◌, ℕ, ◌<◌, ◌≤◌, ◌⊎◌, List, length, Ok, Err}
 use Rattle.satip_base.specs.Streams.{Feed, Drain, Rose, Began, PutAll, FailedToPut}
 use Rattle.satip_plain.specs.Types.{Config as Configuration}
@@ -6,13 +6,11 @@ use Rattle.satip_config.specs.Config.{config}
 use Rattle.satip_config.specs.declared.fault.ConfigFault.{ConfigFault}
 use Rattle.satip_plain.specs.declared.events.Event.{Event}
 use Rattle.satip_script.specs.Scripts.{IsScript}
-use Rattle.satip_config.specs.declared.reading.ConfigurationEnd.{ConfigurationEnd}
-use Rattle.satip_config.specs.declared.reading.ConfigurationEnd.TheVariants as reading
 use Rattle.satip_config.specs.Reading.{EndsTooLong}
 pub use Rattle.satip_config.specs.Configurations.{Configured, IsConfiguration, Refused}
 use Rattle.satip_replay.specs.BatchStreams.{BatchStreams}
-use Rattle.satip_replay.specs.declared.ends.ReplayEnd.{ReplayEnd}
-use Rattle.satip_replay.specs.declared.ends.ReplayEnd.TheVariants.{Done, Configuration as OfConfiguration, Script, InputFault, OutputFault, TooLong, OutOfMemory}
+use Rattle.satip_config.specs.declared.outcome.Outcome.{Outcome}
+use Rattle.satip_config.specs.declared.outcome.Outcome.TheVariants.{Done, Configuration as OfConfiguration, Script, InputFault, OutputFault, TooLong, OutOfMemory}
 use Rattle.satip_replay.specs.Replays.{script_limit, Scripted, Replayed, PartlyReplayed}
 
 -- the configuration is refused; nothing was taken of the input or written
@@ -63,39 +61,28 @@ pub record EndsByWant (config_tells in_tells out_tells : Type 0) (o n : BatchStr
   pub out_faults : n.output.faults ≡ o.output.faults
   pub written : (n.output ≡ o.output) ⊎ PartlyReplayed config_tells in_tells out_tells o n
 
--- the end of a replay whose configuration isn't read
-abbrev pub end_of_reading : ConfigurationEnd → ReplayEnd
-end_of_reading (reading.Fault fault) = OfConfiguration fault
-end_of_reading reading.SourceFailed = InputFault
-end_of_reading reading.OutOfMemory = OutOfMemory
-
--- the end if no script is read
-abbrev pub ScriptEnds : (tells : Type 0) (i j : Feed) → ReplayEnd → Type 0
-ScriptEnds tells i j Done = ⊥
-ScriptEnds tells i j (OfConfiguration fault) = ⊥
+-- the outcome if no script is read
+abbrev pub ScriptEnds : (tells : Type 0) (i j : Feed) → Outcome → Type 0
 ScriptEnds tells i j (Script number) = Scripted tells i j (Err number)
 ScriptEnds tells i j InputFault = Rose i.faults j.faults
-ScriptEnds tells i j OutputFault = ⊥
 ScriptEnds tells i j TooLong = EndsTooLong tells i j script_limit
 ScriptEnds tells i j OutOfMemory = j.faults ≡ i.faults
+ScriptEnds tells i j _ = ⊥
 
 -- out of memory in the middle of a text
 pub record StopsWanting (tells : Type 0) (o n : Drain) (text : List ℕ) : Type 0 where
   pub faults : n.faults ≡ o.faults
   pub content : tells → Began o.sent n.sent text
 
--- the end of writing a printed run
-abbrev pub RunEnds : (tells : Type 0) (o n : Drain) (text : List ℕ) → ReplayEnd → Type 0
+-- the outcome of writing a printed run
+abbrev pub RunEnds : (tells : Type 0) (o n : Drain) (text : List ℕ) → Outcome → Type 0
 RunEnds tells o n text Done = PutAll tells o n text
-RunEnds tells o n text (OfConfiguration fault) = ⊥
-RunEnds tells o n text (Script number) = ⊥
-RunEnds tells o n text InputFault = ⊥
 RunEnds tells o n text OutputFault = FailedToPut tells o n text
-RunEnds tells o n text TooLong = ⊥
 RunEnds tells o n text OutOfMemory = StopsWanting tells o n text
+RunEnds tells o n text _ = ⊥
 
--- the outcome of each end: the printed run was written, or a prefix of it, or nothing
-abbrev pub ReplayOutcome : (config_tells in_tells out_tells : Type 0) (o n : BatchStreams) → ReplayEnd → Type 0
+-- what was done, by the outcome of a replay: the printed run was written, or a prefix of it, or nothing
+abbrev pub ReplayOutcome : (config_tells in_tells out_tells : Type 0) (o n : BatchStreams) → Outcome → Type 0
 ReplayOutcome ct it ot o n Done = Replayed ct it ot o n
 ReplayOutcome ct it ot o n (OfConfiguration fault) = EndsByConfiguration ct o n fault
 ReplayOutcome ct it ot o n (Script number) = EndsByScript ct it o n number
@@ -103,6 +90,7 @@ ReplayOutcome ct it ot o n InputFault = EndsByInput ct o n
 ReplayOutcome ct it ot o n OutputFault = EndsByOutput ct it ot o n
 ReplayOutcome ct it ot o n TooLong = EndsByLength ct it o n
 ReplayOutcome ct it ot o n OutOfMemory = EndsByWant ct it ot o n
+ReplayOutcome ct it ot o n _ = ⊥
 
 -- the text is a script within the limit
 pub record IsRightScript (text : List ℕ) : Type 0 where
@@ -115,12 +103,12 @@ pub record HasWrongLine (text : List ℕ) (number : ℕ) : Type 0 where
   pub script : IsScript text (Err number)
   pub short : length text ≤ script_limit
 
--- the ends that the texts of the configuration and of the script allow, if no source fails
-abbrev pub IsEndOf : (config_text text : List ℕ) → ReplayEnd → Type 0
+-- the outcomes that the texts of the configuration and of the script allow, if no source fails
+abbrev pub IsEndOf : (config_text text : List ℕ) → Outcome → Type 0
 IsEndOf config_text text Done = IsConfiguration config_text × IsRightScript text
 IsEndOf config_text text (OfConfiguration fault) = config config_text ≡ Err fault
 IsEndOf config_text text (Script number) = IsConfiguration config_text × HasWrongLine text number
-IsEndOf config_text text InputFault = ⊥
 IsEndOf config_text text OutputFault = IsConfiguration config_text × IsRightScript text
 IsEndOf config_text text TooLong = IsConfiguration config_text × (script_limit < length text)
 IsEndOf config_text text OutOfMemory = Unit {0}
+IsEndOf config_text text _ = ⊥

@@ -6,11 +6,10 @@ ghost use Rattle.satip_config.specs.Configurations.{configuration_limit};
 ghost use Rattle.satip_replay.specs.Replays.{script_limit, HasScript};
 ghost use Rattle.satip_replay.specs.Ends.{IsEndOf, ReplayOutcome, ScriptEnds};
 
-use crate::ends::ReplayEnd;
 use crate::running::run_script;
 use satip_base::limits::INPUT;
 use satip_base::{Sink, Source};
-use satip_config::{ReadFault, read_configuration, read_whole};
+use satip_config::{Outcome, ReadFault, read_configuration, read_whole};
 use satip_frame::Framer;
 use satip_script::check_script;
 use std::alloc::Global;
@@ -24,8 +23,8 @@ pub fn replay<C: Source, I: Source, O: Sink>(
     config: &mut C,
     input: &mut I,
     output: &mut O,
-) -> ReplayEnd
-    // The outcome of each end.
+) -> Outcome
+    // What was done, by the outcome.
     ensures ends { ReplayOutcome C.tells I.tells O.tells
         (record {
           config = C.feed config.old;
@@ -39,8 +38,8 @@ pub fn replay<C: Source, I: Source, O: Sink>(
         })
         result }
 
-    // How much is taken, and which ends the two texts allow if no source fails.
-    ensures too_long { (result ≡ ReplayEnd.TooLong)
+    // How much is taken, and which outcomes the two texts allow if no source fails.
+    ensures too_long { (result ≡ Outcome.TooLong)
         ↔ (script_limit < (I.feed input.new).taken - (I.feed input.old).taken) }
     ensures configuration_taken { (C.feed config.new).taken
         ≤ (C.feed config.old).taken + configuration_limit + 1 }
@@ -52,10 +51,10 @@ pub fn replay<C: Source, I: Source, O: Sink>(
 {
     let configuration = match read_configuration(alloc, config) {
         Ok(configuration) => configuration,
-        Err(end) => return ReplayEnd::from(end),
+        Err(end) => return Outcome::from(end),
     };
     let Ok(mut framer) = Framer::make(alloc) else {
-        return ReplayEnd::OutOfMemory;
+        return Outcome::OutOfMemory;
     };
     match read_script(alloc, input, &mut framer) {
         Ok(script) => run_script(alloc, configuration, &script, &mut framer, output),
@@ -68,23 +67,23 @@ fn read_script<I: Source>(
     alloc: Global,
     source: &mut I,
     framer: &mut Framer,
-) -> Result<Vec<u8>, ReplayEnd>
+) -> Result<Vec<u8>, Outcome>
     ensures ok { IfOk result (λ text. HasScript I.tells
         (I.feed source.old) (I.feed source.new) text.items) }
     ensures fault { IfErr result (ScriptEnds I.tells
         (I.feed source.old) (I.feed source.new)) }
     ensures limit { (I.feed source.new).taken ≤ (I.feed source.old).taken + script_limit + 1 }
-    ensures too_long { (result ≡ Err ReplayEnd.TooLong)
+    ensures too_long { (result ≡ Err Outcome.TooLong)
         ↔ (script_limit < (I.feed source.new).taken - (I.feed source.old).taken) }
 {
     let text = match read_whole(alloc, source, INPUT) {
         Ok(text) => text,
-        Err(ReadFault::TooLong) => return Err(ReplayEnd::TooLong),
-        Err(ReadFault::Failed) => return Err(ReplayEnd::InputFault),
-        Err(ReadFault::OutOfMemory) => return Err(ReplayEnd::OutOfMemory),
+        Err(ReadFault::TooLong) => return Err(Outcome::TooLong),
+        Err(ReadFault::Failed) => return Err(Outcome::InputFault),
+        Err(ReadFault::OutOfMemory) => return Err(Outcome::OutOfMemory),
     };
     match check_script(&text, framer) {
         None => Ok(text),
-        Some(number) => Err(ReplayEnd::Script(number)),
+        Some(number) => Err(Outcome::Script(number)),
     }
 }

@@ -14,9 +14,8 @@ ghost use Rattle.satip_replay.specs.Replays.{replayed};
 ghost use Rattle.satip_replay.specs.Ends.{RunEnds};
 ghost use Rattle.satip_replay.specs.Runs.{AnswersForm, AnswersNext, Passes};
 
-use crate::ends::ReplayEnd;
 use satip_base::{Draw, Out, Peer, Put, Sink};
-use satip_config::Config;
+use satip_config::{Config, Outcome};
 use satip_core::Server;
 use satip_frame::{Break, Framer};
 use satip_http::HttpRequest;
@@ -43,7 +42,7 @@ pub(crate) fn run_script<O: Sink>(
     script: &[u8],
     framer: &mut Framer,
     output: &mut O,
-) -> ReplayEnd
+) -> Outcome
     requires few { length config.fronts ≤ 16 }
     requires numbered { IsNumbered 1 config.fronts }
     requires received { length config.muxes ≤ 256 }
@@ -52,10 +51,10 @@ pub(crate) fn run_script<O: Sink>(
         (replayed config events) result }
 {
     let Ok(mut server) = Server::make(alloc, config, 0) else {
-        return ReplayEnd::OutOfMemory;
+        return Outcome::OutOfMemory;
     };
     let Ok(mut out) = Out::make(alloc) else {
-        return ReplayEnd::OutOfMemory;
+        return Outcome::OutOfMemory;
     };
     let mut text = Vec::new(alloc);
     run_events(&mut server, script, framer, &mut out, &mut text, output)
@@ -69,7 +68,7 @@ fn run_events<O: Sink>(
     out: &mut Out,
     text: &mut Vec<u8>,
     output: &mut O,
-) -> ReplayEnd
+) -> Outcome
     requires empty { text.old.items ≡ [] }
     ensures ends { (events : List EventValue) → Stands server.old (opening server.old.setting)
         → IsScript script.now (Ok events) → RunEnds O.tells
@@ -84,16 +83,16 @@ fn run_events<O: Sink>(
     'events: while let Some(answer) = answer_next(server, &mut lines, framer, &mut kept, out) {
         match print_entry(&answer, out, text) {
             Ok(()) => {}
-            Err(_) => return ReplayEnd::OutOfMemory,
+            Err(_) => return Outcome::OutOfMemory,
         }
         match pass_on(GATHERED, text, output) {
             Put::Whole => {}
-            Put::Failed => return ReplayEnd::OutputFault,
+            Put::Failed => return Outcome::OutputFault,
         }
     }
     match pass_on(1, text, output) {
-        Put::Whole => ReplayEnd::Done,
-        Put::Failed => ReplayEnd::OutputFault,
+        Put::Whole => Outcome::Done,
+        Put::Failed => Outcome::OutputFault,
     }
 }
 

@@ -8,14 +8,14 @@ use Rattle.satip_desk.specs.declared.kits.PumpKit.{PumpKit}
 use Rattle.satip_desk.specs.declared.kits.WorkerKit.{WorkerKit}
 use Rattle.satip_desk.specs.Fresh.{AreFresh, Unused}
 use Rattle.satip_desk.specs.Views.{worker_view, pump_view, jobs_view}
-use Rattle.satip_desk.specs.declared.kits.Jobs.{Jobs}
+use Rattle.satip_desk.specs.declared.kits.JobKits.{JobKits}
 use Rattle.satip_serve.proofs.Starting.{fresh_at}
 use Rattle.satip_desk.specs.Given.{ComeUnused}
 use Rattle.satip_desk.specs.Fresh.{AreUnused}
 
 -- kits that are the same but for one reading of the clock show the same
 pub come_unused : {D O P M C : Type 0} (hall : D → Hall) (outbox : O → Outbox) (shelf : M → StoreView) (dial : C → Dial)
-    (jobs left : Jobs D O P M C) → Unused dial jobs left → ComeUnused (jobs_view hall outbox shelf dial jobs) (jobs_view hall outbox shelf dial left)
+    (jobs left : JobKits D O P M C) → Unused dial jobs left → ComeUnused (jobs_view hall outbox shelf dial jobs) (jobs_view hall outbox shelf dial left)
 come_unused {D} {O} {P} {M} hall outbox shelf dial jobs left same = record {
   workers = ap (λ (ks : List (WorkerKit D O P)). map (worker_view hall outbox) ks) same.workers_same;
   pumps = ap (λ (ks : List (PumpKit M O P)). map (pump_view shelf outbox) ks) same.pumps_same;
@@ -26,7 +26,7 @@ come_unused {D} {O} {P} {M} hall outbox shelf dial jobs left same = record {
 
 -- kits that are the same but for one reading of the clock, as they are seen
 pub unused_of : {D O P M C : Type 0} (hall : D → Hall) (outbox : O → Outbox) (shelf : M → StoreView) (dial : C → Dial) (accepts : ℕ)
-    (jobs left : Jobs D O P M C) → AreFresh accepts (jobs_view hall outbox shelf dial jobs) → Unused dial jobs left
+    (jobs left : JobKits D O P M C) → AreFresh accepts (jobs_view hall outbox shelf dial jobs) → Unused dial jobs left
     → AreUnused accepts (jobs_view hall outbox shelf dial left)
 unused_of hall outbox shelf dial accepts jobs left fresh same =
     let given = jobs_view hall outbox shelf dial jobs in

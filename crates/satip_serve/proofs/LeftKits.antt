@@ -6,7 +6,7 @@ use Rattle.satip_world.specs.Outboxes.{Outbox}
 use Rattle.satip_world.specs.Recordings.{StoreView}
 use Rattle.satip_desk.specs.declared.kits.PumpKit.{PumpKit}
 use Rattle.satip_desk.specs.declared.kits.WorkerKit.{WorkerKit}
-use Rattle.satip_desk.specs.declared.kits.Jobs.{Jobs}
+use Rattle.satip_desk.specs.declared.kits.JobKits.{JobKits}
 use Rattle.satip_serve.specs.Ran.{ComeBack}
 use Rattle.satip_desk.specs.Views.{WorkerView, PumpView, TickView, worker_view, pump_view, jobs_view}
 
@@ -35,7 +35,7 @@ come_back hall outbox shelf workers workers' pumps pumps' ticker ticker' keys re
 }
 
 -- so they do whatever is seen of their outlets
-pub come_back_as : {D O P M C : Type 0} (hall : D → Hall) (outbox outbox' : O → Outbox) (shelf : M → StoreView) (dial : C → Dial) (jobs left : Jobs D O P M C)
+pub come_back_as : {D O P M C : Type 0} (hall : D → Hall) (outbox outbox' : O → Outbox) (shelf : M → StoreView) (dial : C → Dial) (jobs left : JobKits D O P M C)
     → ComeBack (jobs_view hall outbox shelf dial jobs) (jobs_view hall outbox shelf dial left)
     → ComeBack (jobs_view hall outbox' shelf dial jobs) (jobs_view hall outbox' shelf dial left)
 come_back_as hall outbox outbox' shelf dial jobs left back =

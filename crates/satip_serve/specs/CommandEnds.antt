@@ -6,7 +6,6 @@ use Rattle.satip_plain.specs.Types.{Config as Configuration}
 use Rattle.satip_config.specs.declared.fault.ConfigFault.{ConfigFault}
 use Rattle.satip_base.specs.Lists.{Has}
 use Rattle.satip_config.specs.Configurations.{configuration_limit, Configured, Refused}
-use Rattle.satip_desk.specs.declared.kits.Jobs.{Jobs}
 use Rattle.satip_serve.specs.declared.all_jobs.Last.{Last}
 use Rattle.satip_desk.specs.Views.{DeskView, JobsView}
 use Rattle.satip_desk.specs.Streams.{Tells}
@@ -76,8 +75,7 @@ serve_tells config conn outlet = record {
 }
 
 -- what a serve left, by the contract's views of a source and of kits
-abbrev pub serving_left : {S D O P M C : Type 0} → (S → Feed) → (Jobs D O P M C → JobsView) → Option S → Option (Last D O P M C) → Option (Jobs D O P M C)
-    → ℕ → ServingLeft LastView
+abbrev pub serving_left : {S J : Type 0} → (S → Feed) → (J → JobsView) → Option S → Option (Last J) → Option J → ℕ → ServingLeft LastView
 serving_left feed view source last unused status = record {
   source = option_map feed source;
   last = option_map (last_view view) last;

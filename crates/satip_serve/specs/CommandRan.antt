@@ -7,7 +7,6 @@ use Rattle.satip_turn.specs.Shown.{Cell, IsOf, Knows}
 use Rattle.satip_shared.specs.Calling.{ServerPass}
 use Rattle.satip_turn.specs.Views.{numbers_of}
 use Rattle.satip_world.specs.Halls.{IsAtLimit}
-use Rattle.satip_desk.specs.declared.kits.Jobs.{Jobs}
 use Rattle.satip_serve.specs.declared.all_jobs.Last.{Last}
 use Rattle.satip_serve.specs.Done.{IsFull}
 use Rattle.satip_serve.specs.Ran.{ComeBack}
@@ -28,7 +27,7 @@ pub record LastView : Type 0 where
   pub pass : ServerPass
   pub jobs : JobsView
 
-abbrev pub last_view : {D O P M C : Type 0} → (Jobs D O P M C → JobsView) → Last D O P M C → LastView
+abbrev pub last_view : {J : Type 0} → (J → JobsView) → Last J → LastView
 last_view view l = record { server = l.server; pass = l.pass; jobs = view l.jobs }
 
 -- if the status is 0 and doors end by their limit alone, the doors of each worker are at their limit

@@ -10,7 +10,7 @@ use Rattle.satip_world.specs.Halls.{IsAtLimit}
 use Rattle.satip_jobs.specs.declared.end.ServeEnd.{ServeEnd}
 use Rattle.satip_jobs.specs.declared.end.ServeEnd.TheVariants.{Served}
 use Rattle.satip_jobs.specs.Passes.{ItemOf, PassOf}
-use Rattle.satip_desk.specs.declared.kits.Jobs.{Jobs}
+use Rattle.satip_desk.specs.declared.kits.JobKits.{JobKits}
 use Rattle.satip_serve.specs.ServeRuns.{ServeRun, EndsFull, EndTells}
 use Rattle.satip_serve.specs.Services.{IsFirst}
 use Rattle.satip_serve.specs.Servings.{end_of_run}
@@ -19,7 +19,7 @@ use Rattle.satip_desk.specs.Views.{WorkerView, PumpView, JobsView}
 
 -- the first pass of a server whose histories are legal so, and the number of kits that its setting says
 pub record CanRun {E A D O P M C : Type 0} (legal : Setting → List (ItemOf E A) → Type 0) (server : Cell Setting) (pass : PassOf E A)
-    (jobs : Jobs D O P M C) : Type 0 where
+    (jobs : JobKits D O P M C) : Type 0 where
   pub of : IsOf pass server
   pub knows : Knows (legal server.setting) pass
   pub first : IsFirst pass

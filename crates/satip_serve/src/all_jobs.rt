@@ -12,10 +12,10 @@ use crate::run::run_services;
 use crate::space::{ServeSpace, make_gears, take_space};
 use satip_base::Want;
 use satip_config::Config;
-use satip_desk::Jobs;
+use satip_desk::{Devices, JobKits, Jobs};
 use satip_jobs::{Posts, ServeEnd};
 use satip_shared::{Caller, SharedPass, SharedServer, make};
-use satip_world::{Clock, Doors, MuxStore, Outlet, Pacer};
+use satip_world::Clock;
 use std::alloc::Global;
 use std::sync::Wait;
 use std::thread::Threads;
@@ -23,25 +23,25 @@ use std::thread::Threads;
 /// The remains when all jobs have ended: the server, the one pass into which all others are joined,
 /// and the kits.
 #[derive(Drop)]
-pub struct Last<D, O, P, M, C> {
+pub struct Last<J> {
     pub server: SharedServer,
     pub pass: SharedPass,
-    pub jobs: Jobs<D, O, P, M, C>,
+    pub jobs: J,
 }
 
 // All memory that the jobs take.
 #[derive(Drop)]
-struct Memory<'a, R: Wait + Sync, D, O, P, M> {
-    pub space: ServeSpace<Caller<'a, R>, D, O, P, M>,
+struct Memory<S> {
+    pub space: S,
     pub worker_gears: Vec<()>,
     pub pump_gears: Vec<()>,
 }
 
-fn take_memory<'a, R: Wait + Sync, D: Drop, O: Drop, P: Drop, M: Drop>(
+fn take_memory<'a, R: Wait + Sync, K: Devices>(
     alloc: Global,
     workers: usize,
     pumps: usize,
-) -> Result<Memory<'a, R, D, O, P, M>, Want>
+) -> Result<Memory<ServeSpace<Caller<'a, R>, K>>, Want>
     ensures workers { IfOk result (λ memory. IsSpaceFor workers memory.worker_gears.items
         memory.space.worker_rooms.items memory.space.workers.items
         (vec_capacity memory.space.workers)) }
@@ -50,38 +50,31 @@ fn take_memory<'a, R: Wait + Sync, D: Drop, O: Drop, P: Drop, M: Drop>(
         (vec_capacity memory.space.pumps)) }
 {
     Ok(Memory {
-        space: take_space(alloc, workers, pumps)?,
+        space: take_space::<Caller<'a, R>, K>(alloc, workers, pumps)?,
         worker_gears: make_gears(alloc, workers)?,
         pump_gears: make_gears(alloc, pumps)?,
     })
 }
 
 // Takes all memory and runs the jobs. Gives the kits back if memory was refused.
-fn serve_all<
-    R: Threads + Wait + Sync,
-    D: Doors + Send + Drop,
-    O: Outlet + Send + Drop,
-    P: Pacer + Send + Drop,
-    M: MuxStore + Send + Drop,
-    C: Clock + Send + Drop,
->(
+fn serve_all<R: Threads + Wait + Sync, K: Devices>(
     rt: &R,
     alloc: Global,
     server: &SharedServer,
     pass: SharedPass,
-    jobs: Jobs<D, O, P, M, C>,
-) -> Result<(SharedPass, Jobs<D, O, P, M, C>, ServeEnd), Jobs<D, O, P, M, C>>
+    jobs: Jobs<K>,
+) -> Result<(SharedPass, Jobs<K>, ServeEnd), Jobs<K>>
     requires ready { CanRun Legal server.now pass jobs }
     requires few { length jobs.pumps.items ≤ 16 }
-    ensures ran { IfOk result (λ served. HaveRun D.Conn.tells O.tells
+    ensures ran { IfOk result (λ served. HaveRun K.Doors.Conn.tells K.Outlet.tells
         (FreshJobs server.now.setting.start) server.now
-        (jobs_view D.hall O.outbox M.shelf C.dial jobs) served.0
-        (jobs_view D.hall O.outbox M.shelf C.dial served.1) served.2) }
-    ensures at_limit { IfOk result (λ served. AreAtLimit D.by_limit served.2
-        (jobs_view D.hall O.outbox M.shelf C.dial served.1).workers) }
+        (jobs_view K.Doors.hall K.Outlet.outbox K.Store.shelf K.Clock.dial jobs) served.0
+        (jobs_view K.Doors.hall K.Outlet.outbox K.Store.shelf K.Clock.dial served.1) served.2) }
+    ensures at_limit { IfOk result (λ served. AreAtLimit K.Doors.by_limit served.2
+        (jobs_view K.Doors.hall K.Outlet.outbox K.Store.shelf K.Clock.dial served.1).workers) }
     ensures unused { IfErr result (λ back. back ≡ jobs) }
 {
-    match take_memory(alloc, jobs.workers.len(), jobs.pumps.len()) {
+    match take_memory::<R, K>(alloc, jobs.workers.len(), jobs.pumps.len()) {
         Ok(memory) => {
             let Memory {
                 space,
@@ -103,7 +96,7 @@ fn serve_all<
                 server: _,
                 pass,
             } = root;
-            let jobs = Jobs {
+            let jobs = JobKits {
                 workers: posts.workers,
                 pumps: posts.pumps,
                 tick: posts.ticker,
@@ -121,19 +114,12 @@ fn serve_all<
 ///
 /// All memory is taken before any job begins. If it was refused, returns the kits; then only the
 /// clock was used, once.
-pub fn serve<
-    R: Threads + Wait + Sync,
-    D: Doors + Send + Drop,
-    O: Outlet + Send + Drop,
-    P: Pacer + Send + Drop,
-    M: MuxStore + Send + Drop,
-    C: Clock + Send + Drop,
->(
+pub fn serve<R: Threads + Wait + Sync, K: Devices>(
     rt: &R,
     alloc: Global,
     config: Config,
-    mut jobs: Jobs<D, O, P, M, C>,
-) -> Result<(Last<D, O, P, M, C>, ServeEnd), Jobs<D, O, P, M, C>>
+    mut jobs: Jobs<K>,
+) -> Result<(Last<Jobs<K>>, ServeEnd), Jobs<K>>
     requires few { length config.fronts ≤ 16 }
     requires numbered { IsNumbered 1 config.fronts }
     requires received { length config.muxes ≤ 256 }
@@ -143,16 +129,18 @@ pub fn serve<
     ensures config { IfOk result (λ served. served.0.server.setting.config ≡ config) }
     // the workers' keys and the pumps' recordings come back in order; it was a serve run if the
     // kits were fresh
-    ensures ran { IfOk result (λ served. HaveRun D.Conn.tells O.tells AreFresh served.0.server
-        (jobs_view D.hall O.outbox M.shelf C.dial jobs) served.0.pass
-        (jobs_view D.hall O.outbox M.shelf C.dial served.0.jobs) served.1) }
-    ensures at_limit { IfOk result (λ served. AreAtLimit D.by_limit served.1
-        (jobs_view D.hall O.outbox M.shelf C.dial served.0.jobs).workers) }
-    ensures unused { IfErr result (Unused C.dial jobs) }
+    ensures ran { IfOk result (λ served. HaveRun K.Doors.Conn.tells K.Outlet.tells AreFresh
+        served.0.server
+        (jobs_view K.Doors.hall K.Outlet.outbox K.Store.shelf K.Clock.dial jobs) served.0.pass
+        (jobs_view K.Doors.hall K.Outlet.outbox K.Store.shelf K.Clock.dial served.0.jobs)
+        served.1) }
+    ensures at_limit { IfOk result (λ served. AreAtLimit K.Doors.by_limit served.1
+        (jobs_view K.Doors.hall K.Outlet.outbox K.Store.shelf K.Clock.dial served.0.jobs).workers) }
+    ensures unused { IfErr result (Unused K.Clock.dial jobs) }
 {
     let start = jobs.tick.clock.now();
     match make(alloc, config, start) {
-        Ok((server, pass)) => match serve_all(rt, alloc, &server, pass, jobs) {
+        Ok((server, pass)) => match serve_all::<R, K>(rt, alloc, &server, pass, jobs) {
             Ok((pass, jobs, end)) => Ok((Last { server, pass, jobs }, end)),
             Err(jobs) => Err(jobs),
         },

@@ -11,15 +11,14 @@ ghost use Rattle.satip_desk.specs.Given.{ComeUnused};
 ghost use Rattle.satip_serve.specs.CommandRan.{EndsAtLimit, ServingRun, last_view};
 ghost use Rattle.satip_serve.specs.Servings.{end_of_reading, end_of_run, IsEndOfRun, IsOneOf};
 ghost use Rattle.satip_desk.specs.Fresh.{AreUnused};
-ghost use Rattle.satip_serve.specs.Statuses.{serving_status};
+ghost use Rattle.satip_serve.specs.Statuses.{outcome_of, serving_status};
 
 use crate::all_jobs::{Last, serve};
 use crate::kept_laws::keeps_laws;
 use satip_base::{Failed, Text};
-use satip_config::{Config, ConfigFault, ConfigurationEnd, read_configuration};
-use satip_desk::{Desk, Jobs, JobsFault};
+use satip_config::{Config, ConfigFault, ConfigurationEnd, Outcome, read_configuration};
+use satip_desk::{Desk, Devices, Jobs, JobsFault};
 use satip_jobs::ServeEnd;
-use satip_world::{Clock, Doors, MuxStore, Outlet, Pacer};
 use std::alloc::Global;
 use std::sync::Wait;
 use std::thread::Threads;
@@ -50,6 +49,20 @@ impl ServingEnd {
             ServeEnd::Served => ServingEnd::Served,
             ServeEnd::DoorsFault => ServingEnd::DoorsFault,
             ServeEnd::HistoryFull => ServingEnd::HistoryFull,
+        }
+    }
+
+    /// Returns the outcome of a command that ends so.
+    pub fn outcome(self) -> Outcome
+        ensures outcome { result ≡ outcome_of self }
+    {
+        match self {
+            ServingEnd::Served => Outcome::Done,
+            ServingEnd::Configuration(fault) => Outcome::Configuration(fault),
+            ServingEnd::InputFault => Outcome::InputFault,
+            ServingEnd::DoorsFault => Outcome::DoorsFault,
+            ServingEnd::HistoryFull => Outcome::HistoryFull,
+            ServingEnd::OutOfMemory => Outcome::OutOfMemory,
         }
     }
 }
@@ -92,40 +105,36 @@ impl<L, J> JobsLeft<L, J> {
 }
 
 // Serves with these kits.
-fn serve_jobs<
-    R: Threads + Wait + Sync,
-    D: Doors + Send + Drop,
-    O: Outlet + Send + Drop,
-    P: Pacer + Send + Drop,
-    M: MuxStore + Send + Drop,
-    C: Clock + Send + Drop,
->(
+fn serve_jobs<R: Threads + Wait + Sync, K: Devices>(
     rt: &R,
     alloc: Global,
     config: Config,
     _accepts: u32,
-    jobs: Jobs<D, O, P, M, C>,
-) -> JobsLeft<Last<D, O, P, M, C>, Jobs<D, O, P, M, C>>
+    jobs: Jobs<K>,
+) -> JobsLeft<Last<Jobs<K>>, Jobs<K>>
     requires served { IsServed config }
     requires workers { length jobs.workers.items ≡ config.workers }
     requires pumps { length jobs.pumps.items ≡ length config.fronts }
-    requires fresh { AreFresh _accepts (jobs_view D.hall O.outbox M.shelf C.dial jobs) }
+    requires fresh { AreFresh _accepts
+        (jobs_view K.Doors.hall K.Outlet.outbox K.Store.shelf K.Clock.dial jobs) }
     ensures one { IsOneOf result.last result.unused }
     ensures config { IfSome result.last (λ last. last.server.setting.config ≡ config) }
-    ensures ran { IfSome result.last (λ last. ServingRun D.Conn.tells O.tells _accepts
-        (jobs_view D.hall O.outbox M.shelf C.dial jobs)
-        (last_view (jobs_view D.hall O.outbox M.shelf C.dial) last) (serving_status result.end)) }
-    ensures at_limit { IfSome result.last (λ last. EndsAtLimit D.by_limit
-        (jobs_view D.hall O.outbox M.shelf C.dial last.jobs).workers (serving_status result.end)) }
+    ensures ran { IfSome result.last (λ last. ServingRun K.Doors.Conn.tells K.Outlet.tells _accepts
+        (jobs_view K.Doors.hall K.Outlet.outbox K.Store.shelf K.Clock.dial jobs)
+        (last_view (jobs_view K.Doors.hall K.Outlet.outbox K.Store.shelf K.Clock.dial) last)
+        (serving_status result.end)) }
+    ensures at_limit { IfSome result.last (λ last. EndsAtLimit K.Doors.by_limit
+        (jobs_view K.Doors.hall K.Outlet.outbox K.Store.shelf K.Clock.dial last.jobs).workers
+        (serving_status result.end)) }
     ensures begun { MatchOption result.last (result.end ≡ ServingEnd.OutOfMemory)
         (λ _. IsEndOfRun result.end) }
     ensures kits_unused { IfSome result.unused (λ kits. ComeUnused
-        (jobs_view D.hall O.outbox M.shelf C.dial jobs)
-        (jobs_view D.hall O.outbox M.shelf C.dial kits)) }
+        (jobs_view K.Doors.hall K.Outlet.outbox K.Store.shelf K.Clock.dial jobs)
+        (jobs_view K.Doors.hall K.Outlet.outbox K.Store.shelf K.Clock.dial kits)) }
     ensures unused_kits { IfSome result.unused (λ kits. AreUnused _accepts
-        (jobs_view D.hall O.outbox M.shelf C.dial kits)) }
+        (jobs_view K.Doors.hall K.Outlet.outbox K.Store.shelf K.Clock.dial kits)) }
 {
-    match serve(rt, alloc, config, jobs) {
+    match serve::<R, K>(rt, alloc, config, jobs) {
         Ok((last, end)) => {
             keeps_laws(&last.server, &last.pass);
             JobsLeft {
@@ -149,10 +158,7 @@ fn serve_source<R: Threads + Wait + Sync, K: Desk>(
     source: &mut K::Config,
     accepts: u32,
     desk: &mut K,
-) -> JobsLeft<
-    Last<K::Doors, K::Outlet, K::Pacer, K::Store, K::Clock>,
-    Jobs<K::Doors, K::Outlet, K::Pacer, K::Store, K::Clock>,
->
+) -> JobsLeft<Last<Jobs<K>>, Jobs<K>>
     requires new { (K.desk desk.old).given ≡ None }
     ensures texts { (K.desk desk.new).text ≡ (K.desk desk.old).text }
     ensures handed { (K.desk desk.new).handed ≡ (K.desk desk.old).handed }
@@ -175,7 +181,7 @@ fn serve_source<R: Threads + Wait + Sync, K: Desk>(
         Err(end) => return JobsLeft::nothing(ServingEnd::from(end)),
     };
     match desk.jobs(alloc, &config, accepts) {
-        Ok(jobs) => serve_jobs(rt, alloc, config, accepts, jobs),
+        Ok(jobs) => serve_jobs::<R, K>(rt, alloc, config, accepts, jobs),
         Err(JobsFault::Failed) => JobsLeft::nothing(ServingEnd::DoorsFault),
         Err(JobsFault::Want) => JobsLeft::nothing(ServingEnd::OutOfMemory),
     }
@@ -188,9 +194,9 @@ pub struct Served<K: Desk> {
     /// The configuration's source that the desk gave, as far as it was read.
     pub config: Option<K::Config>,
     /// The remains of the jobs, if any began.
-    pub last: Option<Last<K::Doors, K::Outlet, K::Pacer, K::Store, K::Clock>>,
+    pub last: Option<Last<Jobs<K>>>,
     /// The kits that the desk gave, if no job began.
-    pub unused: Option<Jobs<K::Doors, K::Outlet, K::Pacer, K::Store, K::Clock>>,
+    pub unused: Option<Jobs<K>>,
 }
 
 /// Serves by the configuration of this name, with the kits of the desk. Each worker's doors end

@@ -16,10 +16,9 @@ ghost use Rattle.satip_serve.specs.Services.{Serves, NeverWants, SeatDid, IsFirs
 ghost use Rattle.satip_serve.specs.JobViews.{posts_view};
 
 use crate::seat::{PumpRoom, pump_seat, tick_seat, work_seat};
-use crate::space::ServeSpace;
 use satip_base::Out;
 use satip_desk::{PumpKit, TickKit, WorkerKit};
-use satip_jobs::{Crew, Posts, Seat, ServeEnd, run_jobs};
+use satip_jobs::{Crew, Posts, Seat, ServeEnd, Space, run_jobs};
 use satip_plain::{Answer, Event, Service};
 use satip_worker::Room;
 use satip_world::{Clock, Doors, MuxStore, Outlet, Pacer};
@@ -42,7 +41,7 @@ pub fn run_services<
     rt: &R,
     root: X,
     posts: Posts<WorkerKit<D, O, P>, PumpKit<M, O, P>, TickKit<C, O, P>, X::Gear>,
-    space: ServeSpace<X, D, O, P, M>,
+    space: Space<X, WorkerKit<D, O, P>, Room, PumpKit<M, O, P>, PumpRoom, Out>,
 ) -> (
     X,
     Posts<WorkerKit<D, O, P>, PumpKit<M, O, P>, TickKit<C, O, P>, X::Gear>,

@@ -4,18 +4,18 @@ ghost use Rattle.std.specs.Prelude.{◌≡◌, ◌≤◌, [], length, vec_capaci
 
 use crate::seat::PumpRoom;
 use satip_base::{Out, Want, with_room};
-use satip_desk::{PumpKit, WorkerKit};
+use satip_desk::{Devices, PumpKit, WorkerKit};
 use satip_jobs::Space;
 use satip_pump::Batch;
 use satip_worker::Room;
 use std::alloc::Global;
 
 /// The memory of workers, pumps and the ticker.
-pub type ServeSpace<X, D, O, P, M> = Space<
+pub type ServeSpace<X, K> = Space<
     X,
-    WorkerKit<D, O, P>,
+    WorkerKit<<K as Devices>::Doors, <K as Devices>::Outlet, <K as Devices>::Pacer>,
     Room,
-    PumpKit<M, O, P>,
+    PumpKit<<K as Devices>::Store, <K as Devices>::Outlet, <K as Devices>::Pacer>,
     PumpRoom,
     Out,
 >;
@@ -56,11 +56,11 @@ pub fn make_gears(alloc: Global, count: usize) -> Result<Vec<()>, Want>
 
 /// Takes the memory of all workers and pumps, apart from their kits and gears. Returns `Want` if it
 /// was refused.
-pub fn take_space<X: Drop, D: Drop, O: Drop, P: Drop, M: Drop>(
+pub fn take_space<X: Drop, K: Devices>(
     alloc: Global,
     workers: usize,
     pumps: usize,
-) -> Result<ServeSpace<X, D, O, P, M>, Want>
+) -> Result<ServeSpace<X, K>, Want>
     ensures worker_rooms { IfOk result (λ space. length space.worker_rooms.items ≡ workers) }
     ensures workers { IfOk result (λ space. space.workers.items ≡ []) }
     ensures worker_space { IfOk result (λ space. workers ≤ vec_capacity space.workers) }

@@ -16,7 +16,7 @@ use crate::reel::ReelStore;
 use crate::waiting::{Piece, WaitingDoors};
 use satip_base::{Address, Failed, Text, Want};
 use satip_config::Config;
-use satip_desk::{Desk, JobJournal, Jobs, JobsFault, PumpKit, TickKit, WorkerKit};
+use satip_desk::{Desk, Devices, JobJournal, JobKits, JobsFault, PumpKit, TickKit, WorkerKit};
 use satip_fixtures::texts::CONFIGURATION;
 use satip_memory::{MemoryConn, MemoryInlet, MemorySink, MemorySource};
 use satip_memory_desk::MemoryMoment;
@@ -44,7 +44,7 @@ pub struct Plan {
     pub step: u64,
 }
 
-type WaitingJobs<'a> = Jobs<
+type WaitingJobs<'a> = JobKits<
     WaitingDoors<'a>,
     CountingOutlet<'a>,
     LookingPacer<'a>,
@@ -140,7 +140,7 @@ fn kits<'a>(
         outlet: CountingOutlet::new(deeds, plan.port),
         pacer: LookingPacer::new(deeds, LOOKS, OPEN),
     };
-    Ok(Jobs {
+    Ok(JobKits {
         workers,
         pumps,
         tick,
@@ -178,12 +178,7 @@ impl<'a> WaitingDesk<'a> {
     }
 }
 
-impl<'a> Desk for WaitingDesk<'a> {
-    ghost use Rattle.std.specs.Prelude.{None, false, option_map};
-    ghost use Rattle.satip_memory_desk.specs.Drawers.{memory_view};
-
-    type Config = MemorySource;
-
+impl<'a> Devices for WaitingDesk<'a> {
     type Doors = WaitingDoors<'a>;
 
     type Outlet = CountingOutlet<'a>;
@@ -193,6 +188,13 @@ impl<'a> Desk for WaitingDesk<'a> {
     type Store = ReelStore;
 
     type Clock = SteppedClock<'a>;
+}
+
+impl<'a> Desk for WaitingDesk<'a> {
+    ghost use Rattle.std.specs.Prelude.{None, false, option_map};
+    ghost use Rattle.satip_memory_desk.specs.Drawers.{memory_view};
+
+    type Config = MemorySource;
 
     type Wire = MemoryConn;
 

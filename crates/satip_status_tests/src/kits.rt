@@ -10,7 +10,7 @@ ghost use Rattle.satip_world.specs.Dials.{fresh_dial};
 ghost use Rattle.satip_world.specs.Halls.{Hall, fresh_hall};
 ghost use Rattle.satip_world.specs.Outboxes.{Outbox, fresh_outbox};
 
-use satip_desk::{Jobs, PumpKit, TickKit, WorkerKit};
+use satip_desk::{JobKits, PumpKit, TickKit, WorkerKit};
 use satip_fixtures::CLIENT;
 use satip_fixtures::texts::OPTIONS;
 use satip_memory::{MemoryClock, MemoryConn, MemoryDoors, MemoryOutlet, MemoryPacer, MemoryStore};
@@ -229,7 +229,7 @@ fn lay(
     let tick = make_ticker(rt, alloc);
     desk.lay(
         accepts,
-        Jobs {
+        JobKits {
             workers,
             pumps,
             tick,

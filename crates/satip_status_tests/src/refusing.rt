@@ -4,7 +4,7 @@ ghost use Rattle.std.specs.Prelude.{◌≡◌};
 
 use satip_base::{Address, Failed, Text};
 use satip_config::Config;
-use satip_desk::{Desk, Jobs, JobsFault};
+use satip_desk::{Desk, Devices, Jobs, JobsFault};
 use std::alloc::Global;
 
 /// A desk that is out of memory for kits, if it refuses.
@@ -22,9 +22,7 @@ impl<K: Desk> RefusingDesk<K> {
     }
 }
 
-impl<K: Desk> Desk for RefusingDesk<K> {
-    type Config = K::Config;
-
+impl<K: Desk> Devices for RefusingDesk<K> {
     type Doors = K::Doors;
 
     type Outlet = K::Outlet;
@@ -34,6 +32,10 @@ impl<K: Desk> Desk for RefusingDesk<K> {
     type Store = K::Store;
 
     type Clock = K::Clock;
+}
+
+impl<K: Desk> Desk for RefusingDesk<K> {
+    type Config = K::Config;
 
     type Wire = K::Wire;
 
@@ -45,12 +47,7 @@ impl<K: Desk> Desk for RefusingDesk<K> {
 
     ghost desk = { λ d. K.desk d.desk };
 
-    fn jobs(
-        &mut self,
-        alloc: Global,
-        config: &Config,
-        accepts: u32,
-    ) -> Result<Jobs<K::Doors, K::Outlet, K::Pacer, K::Store, K::Clock>, JobsFault> {
+    fn jobs(&mut self, alloc: Global, config: &Config, accepts: u32) -> Result<Jobs<K>, JobsFault> {
         if self.refuses {
             return Err(JobsFault::Want);
         }

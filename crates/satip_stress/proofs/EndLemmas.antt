@@ -1,42 +1,40 @@
--- What a stress run comes to, by its status.
+-- The outcome of a stress run, by its status.
 use Rattle.std.proofs.Common.{◌≡◌, ℕ, inl, inr, refl, arith}
-use Rattle.satip_base.specs.Streams.{Feed, Drain, PutAll, FailedToPut}
-use Rattle.satip_base.specs.Lists.{Has}
-use Rattle.satip_stress.specs.Ends.{stressed}
-use Rattle.satip_stress.specs.declared.ends.StressEnd.{StressEnd}
-use Rattle.satip_stress.specs.declared.ends.StressEnd.TheVariants.{Done, OutputFault, OutOfMemory}
-use Rattle.satip_stress.specs.CommandEnds.{stress_statuses, stress_status, StressEnds}
-
--- the status is one of a stress run's
-has_end : (end : StressEnd) → Has (stress_status end) stress_statuses
-has_end Done = inl refl
-has_end OutputFault = inr (inl refl)
-has_end OutOfMemory = inr (inr (inl refl))
-
--- how a stress run ended that has this status
-ends_done : (end : StressEnd) → stress_status end ≡ 0 → end ≡ Done
-ends_done Done is = refl
-ends_done OutputFault is = absurd (omega (arith, is))
-ends_done OutOfMemory is = absurd (omega (arith, is))
-
-pub ends_output : (end : StressEnd) → stress_status end ≡ 6 → end ≡ OutputFault
-ends_output Done is = absurd (omega (arith, is))
-ends_output OutputFault is = refl
-ends_output OutOfMemory is = absurd (omega (arith, is))
-
-ends_wanting : (end : StressEnd) → stress_status end ≡ 70 → end ≡ OutOfMemory
-ends_wanting Done is = absurd (omega (arith, is))
-ends_wanting OutputFault is = absurd (omega (arith, is))
-ends_wanting OutOfMemory is = refl
+use Rattle.satip_base.specs.Streams.{Feed, Drain, Rose}
+use Rattle.satip_config.specs.declared.outcome.Outcome.{Outcome}
+use Rattle.satip_config.specs.declared.outcome.Outcome.TheVariants.{Done, OutputFault, OutOfMemory}
+use Rattle.satip_config.specs.Outcomes.{status_of}
+use Rattle.satip_stress.specs.Ends.{StressRuns, stressed}
+use Rattle.satip_stress.specs.CommandEnds.{StressEnds}
 
 -- a stress run
-pub stress_ends : (ot : Type 0) (i : Feed) (o n : Drain) (seed count : ℕ) (end : StressEnd)
-    → (end ≡ Done → PutAll ot o n (stressed seed count)) → (end ≡ OutputFault → FailedToPut ot o n (stressed seed count)) → (end ≡ OutOfMemory → n ≡ o)
-    → StressEnds ot seed count i i o n (stress_status end)
-stress_ends ot i o n seed count end done output wants = record {
-  status_is = has_end end;
+pub stress_ends : (ot : Type 0) (i : Feed) (o n : Drain) (seed count : ℕ) (end : Outcome) → StressRuns ot o n (stressed seed count) end
+    → StressEnds ot seed count i i o n (status_of end)
+stress_ends ot i o n seed count Done put = record {
+  status_is = inl refl;
   input = refl;
-  counted = λ is. done (ends_done end is);
-  counted_partly = λ is. output (ends_output end is);
-  wants = λ is. wants (ends_wanting end is);
+  counted = λ is. put;
+  counted_partly = λ is. absurd (omega (arith, is));
+  wants = λ is. absurd (omega (arith, is));
 }
+stress_ends ot i o n seed count OutputFault failed = record {
+  status_is = inr (inl refl);
+  input = refl;
+  counted = λ is. absurd (omega (arith, is));
+  counted_partly = λ is. failed;
+  wants = λ is. absurd (omega (arith, is));
+}
+stress_ends ot i o n seed count OutOfMemory same = record {
+  status_is = inr (inr (inl refl));
+  input = refl;
+  counted = λ is. absurd (omega (arith, is));
+  counted_partly = λ is. absurd (omega (arith, is));
+  wants = λ is. same;
+}
+stress_ends ot i o n seed count _ never = absurd never
+
+-- why the output failed
+pub output_fault_of : (ot : Type 0) (o n : Drain) (seed count : ℕ) (end : Outcome) → StressRuns ot o n (stressed seed count) end → end ≡ OutputFault
+    → Rose o.faults n.faults
+output_fault_of ot o n seed count OutputFault failed is = failed.faults
+output_fault_of ot o n seed count _ runs is = absurd (cc is)

@@ -1,26 +1,12 @@
 -- The outcome of a stress run, by its status.
-use Rattle.std.specs.Prelude.{◌≡◌, ℕ, List, [], ◌∷◌, codes}
+use Rattle.std.specs.Prelude.{◌≡◌, ℕ, List, [], ◌∷◌}
 use Rattle.satip_base.specs.Streams.{Feed, Drain, PutAll, FailedToPut}
 use Rattle.satip_base.specs.Lists.{Has}
 use Rattle.satip_stress.specs.Ends.{stressed}
-use Rattle.satip_stress.specs.declared.ends.StressEnd.{StressEnd}
-use Rattle.satip_stress.specs.declared.ends.StressEnd.TheVariants.{Done, OutputFault, OutOfMemory}
 
 -- the statuses of a stress run
 abbrev pub stress_statuses : List ℕ
 stress_statuses = 0 ∷ 6 ∷ 70 ∷ []
-
--- the status of an end
-abbrev pub stress_status : StressEnd → ℕ
-stress_status Done = 0
-stress_status OutputFault = 6
-stress_status OutOfMemory = 70
-
--- the line on the errors sink
-abbrev pub stress_line : StressEnd → List ℕ
-stress_line Done = []
-stress_line OutputFault = codes "output fault\n"
-stress_line OutOfMemory = codes "out of memory\n"
 
 -- a stress run: its seed and its count, its input and its output before and after it, and its status
 pub record StressEnds (out_tells : Type 0) (seed count : ℕ) (i j : Feed) (o n : Drain) (status : ℕ) : Type 0 where

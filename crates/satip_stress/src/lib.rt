@@ -8,14 +8,10 @@ mod clients;
 mod command;
 mod counted;
 mod counting;
-mod ends;
 mod kept;
 mod making;
 mod running;
 mod stressing;
-mod telling;
 
 pub use command::stress_by;
-pub use ends::StressEnd;
 pub use stressing::{MOST_EVENTS, stress};
-pub use telling::status_of;

@@ -5,10 +5,11 @@ use Rattle.satip_frame.specs.Said.{Said}
 use Rattle.satip_frame.specs.Stream.{Unfinished, Broken, Messages}
 use Rattle.satip_frame.proofs.StreamLemmas.{one_list, broken_stays}
 use Rattle.satip_base.specs.Lists.{Has}
-use Rattle.satip_talk_command.specs.declared.ends.TalkEnd.{TalkEnd}
-use Rattle.satip_talk_command.specs.declared.ends.TalkEnd.TheVariants.{Done, InputFault, OutputFault, TooLong, OutOfMemory}
+use Rattle.satip_config.specs.declared.outcome.Outcome.{Outcome}
+use Rattle.satip_config.specs.declared.outcome.Outcome.TheVariants.{Done, InputFault, OutputFault, TooLong, OutOfMemory}
+use Rattle.satip_config.specs.Outcomes.{status_of}
 use Rattle.satip_talk_command.specs.Runs.{input_limit, TalkRuns, EndsEarly, EndsByLength, NothingDone}
-use Rattle.satip_talk_command.specs.Ends.{talk_statuses, talk_status, ClosesInTime, IsWithinLimit, TalkEnds}
+use Rattle.satip_talk_command.specs.Ends.{talk_statuses, ClosesInTime, IsWithinLimit, TalkEnds}
 use Rattle.satip_talk_command.proofs.TalkLemmas.{part_of_none}
 
 -- nothing is a beginning
@@ -83,7 +84,7 @@ other_ends it ot i j o n status has never by_input by_output in_long out_long ea
 }
 
 -- a talk
-pub talk_ends : (it ot : Type 0) (i j : Feed) (o n : Drain) (end : TalkEnd) → TalkRuns it ot i j o n end → TalkEnds it ot i j o n (talk_status end)
+pub talk_ends : (it ot : Type 0) (i j : Feed) (o n : Drain) (end : Outcome) → TalkRuns it ot i j o n end → TalkEnds it ot i j o n (status_of end)
 talk_ends it ot i j o n Done runs = record {
   status_is = inl refl;
   replies = λ is told. runs.whole told;
@@ -114,69 +115,34 @@ talk_ends it ot i j o n OutOfMemory runs =
     other_ends it ot i j o n 70 (inr (inr (inr (inr (inl refl))))) (λ is. omega (arith, is)) (λ is. absurd (omega (arith, is)))
     (λ is. absurd (omega (arith, is))) (λ is. absurd (omega (arith, is))) (λ is. absurd (omega (arith, is)))
     (early_from_nothing it ot i j o n runs) (λ is. runs) (λ told within input output. inr refl)
-
--- how a talk ended that has this status
-pub ends_input : (end : TalkEnd) → talk_status end ≡ 5 → end ≡ InputFault
-ends_input Done is = absurd (omega (arith, is))
-ends_input InputFault is = refl
-ends_input OutputFault is = absurd (omega (arith, is))
-ends_input TooLong is = absurd (omega (arith, is))
-ends_input OutOfMemory is = absurd (omega (arith, is))
-
-pub ends_output : (end : TalkEnd) → talk_status end ≡ 6 → end ≡ OutputFault
-ends_output Done is = absurd (omega (arith, is))
-ends_output InputFault is = absurd (omega (arith, is))
-ends_output OutputFault is = refl
-ends_output TooLong is = absurd (omega (arith, is))
-ends_output OutOfMemory is = absurd (omega (arith, is))
-
-pub ends_long : (end : TalkEnd) → talk_status end ≡ 8 → end ≡ TooLong
-ends_long Done is = absurd (omega (arith, is))
-ends_long InputFault is = absurd (omega (arith, is))
-ends_long OutputFault is = absurd (omega (arith, is))
-ends_long TooLong is = refl
-ends_long OutOfMemory is = absurd (omega (arith, is))
+talk_ends it ot i j o n _ never = absurd never
 
 -- why the input, or the output, failed
-pub input_fault_of : (it ot : Type 0) (i j : Feed) (o n : Drain) (end : TalkEnd) → TalkRuns it ot i j o n end → end ≡ InputFault → Rose i.faults j.faults
-input_fault_of it ot i j o n Done runs is = absurd (cc is)
+pub input_fault_of : (it ot : Type 0) (i j : Feed) (o n : Drain) (end : Outcome) → TalkRuns it ot i j o n end → end ≡ InputFault → Rose i.faults j.faults
 input_fault_of it ot i j o n InputFault runs is = runs.rose
-input_fault_of it ot i j o n OutputFault runs is = absurd (cc is)
-input_fault_of it ot i j o n TooLong runs is = absurd (cc is)
-input_fault_of it ot i j o n OutOfMemory runs is = absurd (cc is)
+input_fault_of it ot i j o n _ runs is = absurd (cc is)
 
-pub output_fault_of : (it ot : Type 0) (i j : Feed) (o n : Drain) (end : TalkEnd) → TalkRuns it ot i j o n end → end ≡ OutputFault → Rose o.faults n.faults
-output_fault_of it ot i j o n Done runs is = absurd (cc is)
-output_fault_of it ot i j o n InputFault runs is = absurd (cc is)
+pub output_fault_of : (it ot : Type 0) (i j : Feed) (o n : Drain) (end : Outcome) → TalkRuns it ot i j o n end → end ≡ OutputFault → Rose o.faults n.faults
 output_fault_of it ot i j o n OutputFault runs is = runs.rose
-output_fault_of it ot i j o n TooLong runs is = absurd (cc is)
-output_fault_of it ot i j o n OutOfMemory runs is = absurd (cc is)
+output_fault_of it ot i j o n _ runs is = absurd (cc is)
 
 -- how much was taken where the input isn't too long
-taken_within : (it ot : Type 0) (i j : Feed) (o n : Drain) (end : TalkEnd) → TalkRuns it ot i j o n end → (end ≡ TooLong → ⊥)
+taken_within : (it ot : Type 0) (i j : Feed) (o n : Drain) (end : Outcome) → TalkRuns it ot i j o n end → (end ≡ TooLong → ⊥)
     → j.taken ≤ i.taken + input_limit
 taken_within it ot i j o n Done runs other = omega (arith, runs.read.taken, runs.short)
 taken_within it ot i j o n InputFault runs other = omega (arith, runs.early.read.taken, runs.short)
 taken_within it ot i j o n OutputFault runs other = omega (arith, runs.early.read.taken, runs.short)
 taken_within it ot i j o n TooLong runs other = absurd (other refl)
 taken_within it ot i j o n OutOfMemory runs other = omega (arith, ap (λ (f : Feed). f.taken) runs.input)
+taken_within it ot i j o n _ never other = absurd never
 
 -- exactly one byte too many was taken, or none
-pub too_long_of : (it ot : Type 0) (i j : Feed) (o n : Drain) (end : TalkEnd) → TalkRuns it ot i j o n end
+pub too_long_of : (it ot : Type 0) (i j : Feed) (o n : Drain) (end : Outcome) → TalkRuns it ot i j o n end
     → (end ≡ TooLong) ↔ (input_limit < j.taken - i.taken)
-too_long_of it ot i j o n Done runs =
-    ((λ is. absurd (cc is)), λ more. absurd (omega (arith, more, taken_within it ot i j o n Done runs (λ is. cc is))))
-too_long_of it ot i j o n InputFault runs =
-    ((λ is. absurd (cc is)), λ more. absurd (omega (arith, more, taken_within it ot i j o n InputFault runs (λ is. cc is))))
-too_long_of it ot i j o n OutputFault runs =
-    ((λ is. absurd (cc is)), λ more. absurd (omega (arith, more, taken_within it ot i j o n OutputFault runs (λ is. cc is))))
 too_long_of it ot i j o n TooLong runs = ((λ is. omega (arith, runs.early.read.taken, runs.long)), λ more. refl)
-too_long_of it ot i j o n OutOfMemory runs =
-    ((λ is. absurd (cc is)), λ more. absurd (omega (arith, more, taken_within it ot i j o n OutOfMemory runs (λ is. cc is))))
+too_long_of it ot i j o n end runs =
+    ((λ is. absurd (cc is)), λ more. absurd (omega (arith, more, taken_within it ot i j o n end runs (λ is. cc is))))
 
-pub limit_of : (it ot : Type 0) (i j : Feed) (o n : Drain) (end : TalkEnd) → TalkRuns it ot i j o n end → j.taken ≤ i.taken + input_limit + 1
-limit_of it ot i j o n Done runs = omega (arith, taken_within it ot i j o n Done runs (λ is. cc is))
-limit_of it ot i j o n InputFault runs = omega (arith, taken_within it ot i j o n InputFault runs (λ is. cc is))
-limit_of it ot i j o n OutputFault runs = omega (arith, taken_within it ot i j o n OutputFault runs (λ is. cc is))
+pub limit_of : (it ot : Type 0) (i j : Feed) (o n : Drain) (end : Outcome) → TalkRuns it ot i j o n end → j.taken ≤ i.taken + input_limit + 1
 limit_of it ot i j o n TooLong runs = omega (arith, runs.early.read.taken, runs.long)
-limit_of it ot i j o n OutOfMemory runs = omega (arith, taken_within it ot i j o n OutOfMemory runs (λ is. cc is))
+limit_of it ot i j o n end runs = omega (arith, taken_within it ot i j o n end runs (λ is. cc is))

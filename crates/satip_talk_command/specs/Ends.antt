@@ -1,31 +1,13 @@
 -- The outcome of a talk, by its status.
-use Rattle.std.specs.Prelude.{◌≡◌, ℕ, ◌≤◌, ◌⊎◌, List, [], ◌∷◌, ◌++◌, codes, length}
+use Rattle.std.specs.Prelude.{◌≡◌, ℕ, ◌≤◌, ◌⊎◌, List, [], ◌∷◌, ◌++◌, length}
 use Rattle.satip_base.specs.Streams.{Feed, Drain, Rose}
 use Rattle.satip_base.specs.Lists.{Has}
 use Rattle.satip_talk_command.specs.Talk.{Answered}
 use Rattle.satip_talk_command.specs.Runs.{input_limit, IsBroken, EndsEarly, ReadsInTime, NothingDone}
-use Rattle.satip_talk_command.specs.declared.ends.TalkEnd.{TalkEnd}
-use Rattle.satip_talk_command.specs.declared.ends.TalkEnd.TheVariants.{Done, InputFault, OutputFault, TooLong, OutOfMemory}
 
 -- the statuses of a talk
 abbrev pub talk_statuses : List ℕ
 talk_statuses = 0 ∷ 5 ∷ 6 ∷ 8 ∷ 70 ∷ []
-
--- the status of an end
-abbrev pub talk_status : TalkEnd → ℕ
-talk_status Done = 0
-talk_status InputFault = 5
-talk_status OutputFault = 6
-talk_status TooLong = 8
-talk_status OutOfMemory = 70
-
--- the line on the errors sink
-abbrev pub talk_line : TalkEnd → List ℕ
-talk_line Done = []
-talk_line InputFault = codes "input fault\n"
-talk_line OutputFault = codes "output fault\n"
-talk_line TooLong = codes "input too long\n"
-talk_line OutOfMemory = codes "out of memory\n"
 
 -- a closing reply answers a prefix of the text that is within the limit
 pub record ClosesInTime (text : List ℕ) : Type 0 where

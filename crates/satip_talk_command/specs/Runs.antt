@@ -6,8 +6,8 @@ use Rattle.satip_frame.specs.Stream.{Unfinished, Broken, Messages}
 use Rattle.satip_frame.specs.declared.framing.Break.{Break}
 use Rattle.satip_config.specs.Reading.{Read}
 use Rattle.satip_talk_command.specs.Talk.{Answered, PartlyAnswered}
-use Rattle.satip_talk_command.specs.declared.ends.TalkEnd.{TalkEnd}
-use Rattle.satip_talk_command.specs.declared.ends.TalkEnd.TheVariants.{Done, InputFault, OutputFault, TooLong, OutOfMemory}
+use Rattle.satip_config.specs.declared.outcome.Outcome.{Outcome}
+use Rattle.satip_config.specs.declared.outcome.Outcome.TheVariants.{Done, InputFault, OutputFault, TooLong, OutOfMemory}
 
 -- the most bytes of input that are answered
 abbrev pub input_limit : ℕ
@@ -74,13 +74,14 @@ pub record NothingDone (i j : Feed) (o n : Drain) : Type 0 where
   pub input : j ≡ i
   pub output : n ≡ o
 
--- the contract of each end
-abbrev pub TalkRuns : (in_tells out_tells : Type 0) (i j : Feed) (o n : Drain) → TalkEnd → Type 0
+-- what was done, by the outcome of a talk; it has no other outcomes
+abbrev pub TalkRuns : (in_tells out_tells : Type 0) (i j : Feed) (o n : Drain) → Outcome → Type 0
 TalkRuns in_tells out_tells i j o n Done = EndsWell in_tells out_tells i j o n
 TalkRuns in_tells out_tells i j o n InputFault = EndsByInput in_tells out_tells i j o n
 TalkRuns in_tells out_tells i j o n OutputFault = EndsByOutput in_tells out_tells i j o n
 TalkRuns in_tells out_tells i j o n TooLong = EndsByLength in_tells out_tells i j o n
 TalkRuns in_tells out_tells i j o n OutOfMemory = NothingDone i j o n
+TalkRuns in_tells out_tells i j o n _ = ⊥
 
 -- the input was read to its end, or to the piece in which it is broken
 pub record ReadsInTime (tells : Type 0) (i j : Feed) : Type 0 where

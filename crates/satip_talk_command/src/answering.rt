@@ -6,17 +6,16 @@ ghost use Rattle.satip_talk_command.specs.Talking.{HasAnswered};
 ghost use Rattle.satip_talk_command.specs.Runs.{TalkRuns, input_limit};
 
 use crate::conversation::{Conversation, Heard};
-use crate::ends::TalkEnd;
 use satip_base::limits::{INPUT, PIECE};
 use satip_base::{Sink, Source, Taken};
-use satip_config::take_some;
+use satip_config::{Outcome, take_some};
 use std::alloc::Global;
 
 const LIMIT: u64 = INPUT as u64;
 
 /// Answers the input until it ends, a closing reply was sent, or something fails. All memory is
 /// taken before any input.
-pub(crate) fn answer<I: Source, O: Sink>(alloc: Global, input: &mut I, output: &mut O) -> TalkEnd
+pub(crate) fn answer<I: Source, O: Sink>(alloc: Global, input: &mut I, output: &mut O) -> Outcome
     ensures ends { TalkRuns I.tells O.tells
         (I.feed input.old) (I.feed input.new)
         (O.drain output.old) (O.drain output.new)
@@ -24,7 +23,7 @@ pub(crate) fn answer<I: Source, O: Sink>(alloc: Global, input: &mut I, output: &
 {
     match Conversation::make(alloc) {
         Ok(mut conversation) => converse(&mut conversation, input, output),
-        Err(_) => TalkEnd::OutOfMemory,
+        Err(_) => Outcome::OutOfMemory,
     }
 }
 
@@ -32,7 +31,7 @@ fn converse<I: Source, O: Sink>(
     conversation: &mut Conversation,
     input: &mut I,
     output: &mut O,
-) -> TalkEnd
+) -> Outcome
     requires framer { conversation.old.framer ≡ new_framer }
     requires talker { HasAnswered conversation.old.talker [] }
     requires gathered { conversation.old.gathered ≡ [] }
@@ -48,16 +47,16 @@ fn converse<I: Source, O: Sink>(
             Taken::Got(count) => {
                 taken += count as u64;
                 if taken > LIMIT {
-                    return TalkEnd::TooLong;
+                    return Outcome::TooLong;
                 }
                 match conversation.hear(&buf[..count], output) {
                     Heard::All => {}
-                    Heard::Closed => return TalkEnd::Done,
-                    Heard::Failed => return TalkEnd::OutputFault,
+                    Heard::Closed => return Outcome::Done,
+                    Heard::Failed => return Outcome::OutputFault,
                 }
             }
-            Taken::End => return TalkEnd::Done,
-            Taken::Failed => return TalkEnd::InputFault,
+            Taken::End => return Outcome::Done,
+            Taken::Failed => return Outcome::InputFault,
         }
     }
 }

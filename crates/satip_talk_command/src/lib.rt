@@ -6,11 +6,7 @@
 mod answering;
 mod command;
 mod conversation;
-mod ends;
 mod gathered;
 mod talker;
-mod telling;
 
 pub use command::talk;
-pub use ends::TalkEnd;
-pub use telling::status_of;

@@ -9,7 +9,7 @@ use Rattle.satip_desk.specs.declared.kits.TickKit.{TickKit}
 use Rattle.satip_desk.specs.declared.kits.WorkerKit.{WorkerKit}
 use Rattle.satip_tunnel.specs.Kits.{each_two, pump_with, silent, silent_pump, silent_worker, ticker_with, worker_with}
 use Rattle.satip_tunnel.specs.declared.silent.Silent.{Silent}
-use Rattle.satip_desk.specs.declared.kits.Jobs.{Jobs}
+use Rattle.satip_desk.specs.declared.kits.JobKits.{JobKits}
 use Rattle.satip_desk.specs.Views.{WorkerView, PumpView, TickView, JobsView}
 use Rattle.satip_tunnel_serve.specs.Ran.{HaveOutlets}
 use Rattle.satip_tunnel_serve.specs.Views.{worker_seen, pump_seen, ticker_seen, jobs_seen}
@@ -79,7 +79,7 @@ seen_same ws ws' ps ps' t t' is_ws is_ps is_t =
     ap (λ (x : List WorkerView). kits_seen x ps t) is_ws ∙ ap (λ (x : List PumpView). kits_seen ws' x t) is_ps ∙ ap (λ (x : TickView). kits_seen ws' ps' x) is_t
 
 -- without outlets, the kits whose outlets are put aside are seen as they were
-pub silent_seen : {D O P M C : Type 0} (hall : D → Hall) (shelf : M → StoreView) (dial : C → Dial) (jobs : Jobs D O P M C) (quiet : Jobs D Silent P M C)
+pub silent_seen : {D O P M C : Type 0} (hall : D → Hall) (shelf : M → StoreView) (dial : C → Dial) (jobs : JobKits D O P M C) (quiet : JobKits D Silent P M C)
     → quiet.workers.items ≡ map (λ kit. silent_worker kit) jobs.workers.items → quiet.pumps.items ≡ map (λ kit. silent_pump kit) jobs.pumps.items
     → quiet.tick ≡ ticker_with jobs.tick silent → jobs_seen hall shelf dial quiet ≡ jobs_seen hall shelf dial jobs
 silent_seen {D} {O} {P} {M} {C} hall shelf dial jobs quiet are_workers are_pumps is_tick =
@@ -91,8 +91,8 @@ silent_seen {D} {O} {P} {M} {C} hall shelf dial jobs quiet are_workers are_pumps
     (ap (λ (t : TickKit C Silent P). ticker_seen dial t) is_tick)
 
 -- so are the kits that have their outlets again
-pub sounded_seen : {D O P M C : Type 0} (hall : D → Hall) (shelf : M → StoreView) (dial : C → Dial) (jobs : Jobs D O P M C) (quiet back : Jobs D Silent P M C)
-    (worker_outlets pump_outlets : List O) (ticker_outlet : O) (last : Jobs D O P M C)
+pub sounded_seen : {D O P M C : Type 0} (hall : D → Hall) (shelf : M → StoreView) (dial : C → Dial) (jobs : JobKits D O P M C) (quiet back : JobKits D Silent P M C)
+    (worker_outlets pump_outlets : List O) (ticker_outlet : O) (last : JobKits D O P M C)
     → quiet.workers.items ≡ map (λ kit. silent_worker kit) jobs.workers.items → quiet.pumps.items ≡ map (λ kit. silent_pump kit) jobs.pumps.items
     → worker_outlets ≡ map (λ kit. kit.outlet) jobs.workers.items → pump_outlets ≡ map (λ kit. kit.outlet) jobs.pumps.items
     → length back.workers.items ≡ length quiet.workers.items → length back.pumps.items ≡ length quiet.pumps.items
@@ -111,8 +111,8 @@ sounded_seen {D} {O} {P} {M} {C} hall shelf dial jobs quiet back worker_outlets 
     (ap (λ (t : TickKit C O P). ticker_seen dial t) tick_is)
 
 -- and they have the outlets that they had
-pub have_outlets : {D O P M C : Type 0} (jobs : Jobs D O P M C) (quiet back : Jobs D Silent P M C)
-    (worker_outlets pump_outlets : List O) (ticker_outlet : O) (last : Jobs D O P M C)
+pub have_outlets : {D O P M C : Type 0} (jobs : JobKits D O P M C) (quiet back : JobKits D Silent P M C)
+    (worker_outlets pump_outlets : List O) (ticker_outlet : O) (last : JobKits D O P M C)
     → quiet.workers.items ≡ map (λ kit. silent_worker kit) jobs.workers.items → quiet.pumps.items ≡ map (λ kit. silent_pump kit) jobs.pumps.items
     → worker_outlets ≡ map (λ kit. kit.outlet) jobs.workers.items → pump_outlets ≡ map (λ kit. kit.outlet) jobs.pumps.items → ticker_outlet ≡ jobs.tick.outlet
     → length back.workers.items ≡ length quiet.workers.items → length back.pumps.items ≡ length quiet.pumps.items

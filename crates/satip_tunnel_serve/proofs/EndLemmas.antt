@@ -11,7 +11,7 @@ use Rattle.satip_jobs.specs.declared.end.ServeEnd.{ServeEnd}
 use Rattle.satip_jobs.specs.declared.end.ServeEnd.TheVariants as serves
 use Rattle.satip_jobs.specs.Passes.{IsFull}
 use Rattle.satip_jobs.specs.Runs.{HasOne, MatchEnd}
-use Rattle.satip_desk.specs.declared.kits.Jobs.{Jobs}
+use Rattle.satip_desk.specs.declared.kits.JobKits.{JobKits}
 use Rattle.satip_desk.specs.Fresh.{AreFresh, FreshPump, FreshWorker}
 use Rattle.satip_serve.specs.ServeRuns.{HasFault}
 use Rattle.satip_desk.specs.Views.{WorkerView, PumpView, jobs_view, worker_view, pump_view}
@@ -54,7 +54,7 @@ pump_outboxes shelf outbox [] = refl
 pump_outboxes shelf outbox (kit ∷ kits) = ap (λ (all : List Outbox). outbox kit.outlet ∷ all) (pump_outboxes shelf outbox kits)
 
 -- the outlets come back as they were
-pub outlets_stay : {D O P M C : Type 0} (hall : D → Hall) (outbox : O → Outbox) (shelf : M → StoreView) (dial : C → Dial) (jobs left : Jobs D O P M C)
+pub outlets_stay : {D O P M C : Type 0} (hall : D → Hall) (outbox : O → Outbox) (shelf : M → StoreView) (dial : C → Dial) (jobs left : JobKits D O P M C)
     → HaveOutlets jobs left → OutletsStay (jobs_view hall outbox shelf dial jobs) (jobs_view hall outbox shelf dial left)
 outlets_stay {D} {O} {P} {M} {C} hall outbox shelf dial jobs left have = record {
   workers = worker_outboxes hall outbox left.workers.items
@@ -78,7 +78,7 @@ pumps_fresh shelf outbox (k ∷ ks) fresh = (
   pumps_fresh shelf outbox ks fresh.1,
 )
 
-pub fresh_seen : {D O P M C : Type 0} (hall : D → Hall) (outbox : O → Outbox) (shelf : M → StoreView) (dial : C → Dial) (accepts : ℕ) (jobs : Jobs D O P M C)
+pub fresh_seen : {D O P M C : Type 0} (hall : D → Hall) (outbox : O → Outbox) (shelf : M → StoreView) (dial : C → Dial) (accepts : ℕ) (jobs : JobKits D O P M C)
     → AreFresh accepts (jobs_view hall outbox shelf dial jobs) → AreFresh accepts (jobs_seen hall shelf dial jobs)
 fresh_seen hall outbox shelf dial accepts jobs fresh = record {
   workers_are = workers_fresh accepts hall outbox jobs.workers.items fresh.workers_are;

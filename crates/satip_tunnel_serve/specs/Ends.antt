@@ -7,7 +7,6 @@ use Rattle.satip_turn.specs.Shown.{Cell, IsOf, Knows}
 use Rattle.satip_turn.specs.Views.{numbers_of}
 use Rattle.satip_jobs.specs.Passes.{IsFull}
 use Rattle.satip_jobs.specs.Runs.{Along}
-use Rattle.satip_desk.specs.declared.kits.Jobs.{Jobs}
 use Rattle.satip_desk.specs.Streams.{Tells}
 use Rattle.satip_serve.specs.CommandEnds.{ServingEnds, ServingLeft}
 use Rattle.satip_serve.specs.Ran.{ComeBack}
@@ -28,7 +27,7 @@ pub record TunnelLastView : Type 0 where
   pub jobs : JobsView
   pub silent : JobsView
 
-abbrev pub tunnel_last_view : {D O P M C : Type 0} → (view silent_view : Jobs D O P M C → JobsView) → TunnelLast D O P M C → TunnelLastView
+abbrev pub tunnel_last_view : {J : Type 0} → (view silent_view : J → JobsView) → TunnelLast J → TunnelLastView
 tunnel_last_view view silent_view l = record { server = l.server; pass = l.pass; jobs = view l.jobs; silent = silent_view l.jobs }
 
 -- jobs ran with the given kits, left `l` and ended with this status. Each worker's doors end after `accepts` connections
@@ -73,8 +72,8 @@ tunnel_tells config conn = record {
 }
 
 -- what serving through a tunnel left, by the contract's views of a source and of kits
-abbrev pub tunnel_left : {S D O P M C : Type 0} → (S → Feed) → (view silent_view : Jobs D O P M C → JobsView) → Option S → Option (TunnelLast D O P M C)
-    → Option (Jobs D O P M C) → ℕ → ServingLeft TunnelLastView
+abbrev pub tunnel_left : {S J : Type 0} → (S → Feed) → (view silent_view : J → JobsView) → Option S → Option (TunnelLast J) → Option J → ℕ
+    → ServingLeft TunnelLastView
 tunnel_left feed view silent_view source last unused status = record {
   source = option_map feed source;
   last = option_map (tunnel_last_view view silent_view) last;

@@ -5,7 +5,7 @@ use Rattle.satip_turn.specs.Shown.{Cell, IsOf, Knows}
 use Rattle.satip_interleave.specs.Histories.{TunnelLegal}
 use Rattle.satip_interleave.specs.Calling.{ShownPass}
 use Rattle.satip_jobs.specs.declared.end.ServeEnd.{ServeEnd}
-use Rattle.satip_desk.specs.declared.kits.Jobs.{Jobs}
+use Rattle.satip_desk.specs.declared.kits.JobKits.{JobKits}
 use Rattle.satip_serve.specs.Ran.{ComeBack}
 use Rattle.satip_turn.specs.Views.{numbers_of}
 use Rattle.satip_desk.specs.Views.{JobsView}
@@ -30,7 +30,7 @@ pub record HaveTunneled (conn_tells : Type 0) (AreNew : ℕ → JobsView → Typ
   pub jobs : TunnelJobsRan conn_tells AreNew tunnel.setting given pass left end
 
 -- the kits that jobs left have the outlets of the given kits, in order
-pub record HaveOutlets {D O P M C : Type 0} (given left : Jobs D O P M C) : Type 0 where
+pub record HaveOutlets {D O P M C : Type 0} (given left : JobKits D O P M C) : Type 0 where
   pub workers : map (λ kit. kit.outlet) left.workers.items ≡ map (λ kit. kit.outlet) given.workers.items
   pub pumps : map (λ kit. kit.outlet) left.pumps.items ≡ map (λ kit. kit.outlet) given.pumps.items
   pub ticker : left.tick.outlet ≡ given.tick.outlet

@@ -18,11 +18,11 @@ use crate::seat::work_at_seat;
 use crate::space::{Memory, take_memory};
 use satip_base::Want;
 use satip_config::Config;
-use satip_desk::{Jobs, WorkerKit};
+use satip_desk::{Devices, JobKits, Jobs, WorkerKit};
 use satip_interleave::{SharedTunnel, TunnelCaller, TunnelPass, make};
 use satip_jobs::{Posts, Seat, ServeEnd};
 use satip_tunnel::{Silent, WorkerRoom};
-use satip_world::{Clock, Doors, MuxStore, Outlet, Pacer};
+use satip_world::{Clock, Doors, MuxStore, Pacer};
 use std::alloc::Global;
 use std::sync::Wait;
 use std::thread::Threads;
@@ -30,10 +30,10 @@ use std::thread::Threads;
 /// The remains when all jobs have ended: the tunnel, the one pass into which all others are joined,
 /// and the kits.
 #[derive(Drop)]
-pub struct TunnelLast<D, O, P, M, C> {
+pub struct TunnelLast<J> {
     pub server: SharedTunnel,
     pub pass: TunnelPass,
-    pub jobs: Jobs<D, O, P, M, C>,
+    pub jobs: J,
 }
 
 // The gears of the jobs' callers, which are nothing.
@@ -55,10 +55,10 @@ fn run_silent<
     rt: &'a R,
     server: &'a SharedTunnel,
     pass: TunnelPass,
-    jobs: Jobs<D, Silent, P, M, C>,
+    jobs: JobKits<D, Silent, P, M, C>,
     gears: Gears,
     space: TunnelSpace<TunnelCaller<'a, R>, D, WorkerRoom, P, M>,
-) -> (TunnelPass, Jobs<D, Silent, P, M, C>, ServeEnd)
+) -> (TunnelPass, JobKits<D, Silent, P, M, C>, ServeEnd)
     requires ready { CanRun TunnelLegal server.now pass jobs }
     requires worker_space { IsSpaceFor (length jobs.workers.items) gears.workers.items
         space.worker_rooms.items space.workers.items (vec_capacity space.workers) }
@@ -99,7 +99,7 @@ fn run_silent<
         server: _,
         pass,
     } = root;
-    let jobs = Jobs {
+    let jobs = JobKits {
         workers: posts.workers,
         pumps: posts.pumps,
         tick: posts.ticker,
@@ -108,29 +108,23 @@ fn run_silent<
 }
 
 // Takes all memory and runs the jobs. Gives the kits back if memory was refused.
-fn serve_all<
-    R: Threads + Wait + Sync,
-    D: Doors + Send + Drop,
-    O: Outlet + Send + Drop,
-    P: Pacer + Send + Drop,
-    M: MuxStore + Send + Drop,
-    C: Clock + Send + Drop,
->(
+fn serve_all<R: Threads + Wait + Sync, K: Devices>(
     rt: &R,
     alloc: Global,
     server: &SharedTunnel,
     pass: TunnelPass,
-    jobs: Jobs<D, O, P, M, C>,
-) -> Result<(TunnelPass, Jobs<D, O, P, M, C>, ServeEnd), Jobs<D, O, P, M, C>>
+    jobs: Jobs<K>,
+) -> Result<(TunnelPass, Jobs<K>, ServeEnd), Jobs<K>>
     requires ready { CanRun TunnelLegal server.now pass jobs }
     requires few { length jobs.pumps.items ≤ 16 }
-    ensures ran { IfOk result (λ served. HaveTunneled D.Conn.tells
-        (FreshJobs server.now.setting.start) server.now (jobs_seen D.hall M.shelf C.dial jobs)
-        served.0 (jobs_seen D.hall M.shelf C.dial served.1) served.2) }
+    ensures ran { IfOk result (λ served. HaveTunneled K.Doors.Conn.tells
+        (FreshJobs server.now.setting.start) server.now
+        (jobs_seen K.Doors.hall K.Store.shelf K.Clock.dial jobs) served.0
+        (jobs_seen K.Doors.hall K.Store.shelf K.Clock.dial served.1) served.2) }
     ensures outlets { IfOk result (λ served. HaveOutlets jobs served.1) }
     ensures unused { IfErr result (λ back. back ≡ jobs) }
 {
-    match take_memory(alloc, jobs.workers.len(), jobs.pumps.len()) {
+    match take_memory::<TunnelCaller<R>, K>(alloc, jobs.workers.len(), jobs.pumps.len()) {
         Ok(memory) => {
             let Memory {
                 space,
@@ -158,19 +152,12 @@ fn serve_all<
 ///
 /// All memory is taken before any job begins. If it was refused, returns the kits; then only the
 /// clock was used, once.
-pub fn serve_through_tunnel<
-    R: Threads + Wait + Sync,
-    D: Doors + Send + Drop,
-    O: Outlet + Send + Drop,
-    P: Pacer + Send + Drop,
-    M: MuxStore + Send + Drop,
-    C: Clock + Send + Drop,
->(
+pub fn serve_through_tunnel<R: Threads + Wait + Sync, K: Devices>(
     rt: &R,
     alloc: Global,
     config: Config,
-    mut jobs: Jobs<D, O, P, M, C>,
-) -> Result<(TunnelLast<D, O, P, M, C>, ServeEnd), Jobs<D, O, P, M, C>>
+    mut jobs: Jobs<K>,
+) -> Result<(TunnelLast<Jobs<K>>, ServeEnd), Jobs<K>>
     requires few { length config.fronts ≤ 16 }
     requires numbered { IsNumbered 1 config.fronts }
     requires received { length config.muxes ≤ 256 }
@@ -180,15 +167,15 @@ pub fn serve_through_tunnel<
     ensures config { IfOk result (λ served. served.0.server.setting.config ≡ config) }
     // the workers' keys, the pumps' recordings and all outlets come back in order; it was a run of
     // the tunnel if the kits were fresh, apart from their outlets
-    ensures ran { IfOk result (λ served. HaveTunneled D.Conn.tells AreFresh served.0.server
-        (jobs_seen D.hall M.shelf C.dial jobs) served.0.pass
-        (jobs_seen D.hall M.shelf C.dial served.0.jobs) served.1) }
+    ensures ran { IfOk result (λ served. HaveTunneled K.Doors.Conn.tells AreFresh served.0.server
+        (jobs_seen K.Doors.hall K.Store.shelf K.Clock.dial jobs) served.0.pass
+        (jobs_seen K.Doors.hall K.Store.shelf K.Clock.dial served.0.jobs) served.1) }
     ensures outlets { IfOk result (λ served. HaveOutlets jobs served.0.jobs) }
-    ensures unused { IfErr result (Unused C.dial jobs) }
+    ensures unused { IfErr result (Unused K.Clock.dial jobs) }
 {
     let start = jobs.tick.clock.now();
     match make(alloc, config, start) {
-        Ok((server, pass)) => match serve_all(rt, alloc, &server, pass, jobs) {
+        Ok((server, pass)) => match serve_all::<R, K>(rt, alloc, &server, pass, jobs) {
             Ok((pass, jobs, end)) => Ok((TunnelLast { server, pass, jobs }, end)),
             Err(jobs) => Err(jobs),
         },

@@ -4,7 +4,7 @@ ghost use Rattle.std.specs.Prelude.{◌≡◌, map, vec_len, vec_capacity};
 ghost use Rattle.satip_tunnel.specs.Kits.{each_two, pump_with, silent, silent_pump, silent_worker, ticker_with, worker_with};
 ghost use Rattle.satip_tunnel_serve.specs.Asides.{AreKept, IsSpareFor};
 
-use satip_desk::{Jobs, PumpKit, WorkerKit};
+use satip_desk::{JobKits, PumpKit, WorkerKit};
 use satip_tunnel::{
     Silent, silence_pumps, silence_ticker, silence_workers, sound_pumps, sound_ticker,
     sound_workers,
@@ -31,9 +31,9 @@ pub(crate) struct Aside<D, O, P, M> {
 
 /// Puts the outlets of all kits aside.
 pub(crate) fn put_aside<D, O, P, M, C>(
-    jobs: Jobs<D, O, P, M, C>,
+    jobs: JobKits<D, O, P, M, C>,
     spare: Spare<D, O, P, M>,
-) -> (Jobs<D, Silent, P, M, C>, Aside<D, O, P, M>)
+) -> (JobKits<D, Silent, P, M, C>, Aside<D, O, P, M>)
     requires workers { IsSpareFor (vec_len jobs.workers) spare.workers.items
         (vec_capacity spare.workers) spare.worker_outlets.items
         (vec_capacity spare.worker_outlets) }
@@ -52,7 +52,7 @@ pub(crate) fn put_aside<D, O, P, M, C>(
         ≡ map (λ kit. kit.outlet) jobs.pumps.items }
     ensures ticker_outlet { result.1.ticker_outlet ≡ jobs.tick.outlet }
 {
-    let Jobs {
+    let JobKits {
         mut workers,
         mut pumps,
         tick,
@@ -66,7 +66,7 @@ pub(crate) fn put_aside<D, O, P, M, C>(
     silence_workers(&mut workers, &mut silent_workers, &mut worker_outlets);
     silence_pumps(&mut pumps, &mut silent_pumps, &mut pump_outlets);
     let (tick, ticker_outlet) = silence_ticker(tick);
-    let jobs = Jobs {
+    let jobs = JobKits {
         workers: silent_workers,
         pumps: silent_pumps,
         tick,
@@ -83,9 +83,9 @@ pub(crate) fn put_aside<D, O, P, M, C>(
 
 /// Gives all kits their outlets.
 pub(crate) fn take_back<D: Drop, O: Drop, P: Drop, M: Drop, C>(
-    jobs: Jobs<D, Silent, P, M, C>,
+    jobs: JobKits<D, Silent, P, M, C>,
     aside: Aside<D, O, P, M>,
-) -> Jobs<D, O, P, M, C>
+) -> JobKits<D, O, P, M, C>
     requires workers { AreKept (vec_len jobs.workers) aside.workers.items
         (vec_capacity aside.workers) aside.worker_outlets.items }
     requires pumps { AreKept (vec_len jobs.pumps) aside.pumps.items
@@ -96,7 +96,7 @@ pub(crate) fn take_back<D: Drop, O: Drop, P: Drop, M: Drop, C>(
         jobs.pumps.items aside.pump_outlets.items }
     ensures tick { result.tick ≡ ticker_with jobs.tick aside.ticker_outlet }
 {
-    let Jobs {
+    let JobKits {
         workers: mut silent_workers,
         pumps: mut silent_pumps,
         tick,
@@ -111,7 +111,7 @@ pub(crate) fn take_back<D: Drop, O: Drop, P: Drop, M: Drop, C>(
     sound_workers(&mut silent_workers, &mut worker_outlets, &mut workers);
     sound_pumps(&mut silent_pumps, &mut pump_outlets, &mut pumps);
     let tick = sound_ticker(tick, ticker_outlet);
-    Jobs {
+    JobKits {
         workers,
         pumps,
         tick,

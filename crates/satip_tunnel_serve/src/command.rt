@@ -18,50 +18,44 @@ use crate::command_laws::keeps_laws;
 use crate::run_laws::connections_have_lanes;
 use satip_base::{Failed, Text};
 use satip_config::{Config, read_configuration};
-use satip_desk::{Desk, Jobs, JobsFault};
+use satip_desk::{Desk, Devices, Jobs, JobsFault};
 use satip_serve::{JobsLeft, ServingEnd};
-use satip_world::{Clock, Doors, MuxStore, Outlet, Pacer};
 use std::alloc::Global;
 use std::sync::Wait;
 use std::thread::Threads;
 
 // Serves with these kits.
-fn run_kits<
-    R: Threads + Wait + Sync,
-    D: Doors + Send + Drop,
-    O: Outlet + Send + Drop,
-    P: Pacer + Send + Drop,
-    M: MuxStore + Send + Drop,
-    C: Clock + Send + Drop,
->(
+fn run_kits<R: Threads + Wait + Sync, K: Devices>(
     rt: &R,
     alloc: Global,
     config: Config,
     _accepts: u32,
-    jobs: Jobs<D, O, P, M, C>,
-) -> JobsLeft<TunnelLast<D, O, P, M, C>, Jobs<D, O, P, M, C>>
+    jobs: Jobs<K>,
+) -> JobsLeft<TunnelLast<Jobs<K>>, Jobs<K>>
     requires served { IsServed config }
     requires workers { length jobs.workers.items ≡ config.workers }
     requires pumps { length jobs.pumps.items ≡ length config.fronts }
-    requires fresh { AreFresh _accepts (jobs_view D.hall O.outbox M.shelf C.dial jobs) }
+    requires fresh { AreFresh _accepts
+        (jobs_view K.Doors.hall K.Outlet.outbox K.Store.shelf K.Clock.dial jobs) }
     ensures one { IsOneOf result.last result.unused }
     ensures config { IfSome result.last (λ last. last.server.setting.config ≡ config) }
-    ensures ran { IfSome result.last (λ last. TunnelServingRun D.Conn.tells _accepts
-        (jobs_view D.hall O.outbox M.shelf C.dial jobs)
-        (tunnel_last_view (jobs_view D.hall O.outbox M.shelf C.dial)
-        (jobs_view D.hall no_outbox M.shelf C.dial) last) (serving_status result.end)) }
+    ensures ran { IfSome result.last (λ last. TunnelServingRun K.Doors.Conn.tells _accepts
+        (jobs_view K.Doors.hall K.Outlet.outbox K.Store.shelf K.Clock.dial jobs)
+        (tunnel_last_view (jobs_view K.Doors.hall K.Outlet.outbox K.Store.shelf K.Clock.dial)
+        (jobs_view K.Doors.hall no_outbox K.Store.shelf K.Clock.dial) last)
+        (serving_status result.end)) }
     ensures begun { MatchOption result.last (result.end ≡ ServingEnd.OutOfMemory)
         (λ _. IsEndOfRun result.end) }
     ensures kits_unused { IfSome result.unused (λ kits. ComeUnused
-        (jobs_view D.hall O.outbox M.shelf C.dial jobs)
-        (jobs_view D.hall O.outbox M.shelf C.dial kits)) }
+        (jobs_view K.Doors.hall K.Outlet.outbox K.Store.shelf K.Clock.dial jobs)
+        (jobs_view K.Doors.hall K.Outlet.outbox K.Store.shelf K.Clock.dial kits)) }
     ensures unused_kits { IfSome result.unused (λ kits. AreUnused _accepts
-        (jobs_view D.hall O.outbox M.shelf C.dial kits)) }
+        (jobs_view K.Doors.hall K.Outlet.outbox K.Store.shelf K.Clock.dial kits)) }
 {
-    match serve_through_tunnel(rt, alloc, config, jobs) {
+    match serve_through_tunnel::<R, K>(rt, alloc, config, jobs) {
         Ok((last, end)) => {
             keeps_laws(&last.server, &last.pass);
-            connections_have_lanes::<D>();
+            connections_have_lanes::<K::Doors>();
             JobsLeft {
                 end: ServingEnd::of_run(end),
                 last: Some(last),
@@ -83,10 +77,7 @@ fn run_source<R: Threads + Wait + Sync, K: Desk>(
     source: &mut K::Config,
     accepts: u32,
     desk: &mut K,
-) -> JobsLeft<
-    TunnelLast<K::Doors, K::Outlet, K::Pacer, K::Store, K::Clock>,
-    Jobs<K::Doors, K::Outlet, K::Pacer, K::Store, K::Clock>,
->
+) -> JobsLeft<TunnelLast<Jobs<K>>, Jobs<K>>
     requires new { (K.desk desk.old).given ≡ None }
     ensures texts { (K.desk desk.new).text ≡ (K.desk desk.old).text }
     ensures handed { (K.desk desk.new).handed ≡ (K.desk desk.old).handed }
@@ -107,7 +98,7 @@ fn run_source<R: Threads + Wait + Sync, K: Desk>(
         Err(end) => return JobsLeft::nothing(ServingEnd::from(end)),
     };
     match desk.jobs(alloc, &config, accepts) {
-        Ok(jobs) => run_kits(rt, alloc, config, accepts, jobs),
+        Ok(jobs) => run_kits::<R, K>(rt, alloc, config, accepts, jobs),
         Err(JobsFault::Failed) => JobsLeft::nothing(ServingEnd::DoorsFault),
         Err(JobsFault::Want) => JobsLeft::nothing(ServingEnd::OutOfMemory),
     }
@@ -120,9 +111,9 @@ pub struct Tunneled<K: Desk> {
     /// The configuration's source that the desk gave, as far as it was read.
     pub config: Option<K::Config>,
     /// The remains of the jobs, if any began.
-    pub last: Option<TunnelLast<K::Doors, K::Outlet, K::Pacer, K::Store, K::Clock>>,
+    pub last: Option<TunnelLast<Jobs<K>>>,
     /// The kits that the desk gave, if no job began.
-    pub unused: Option<Jobs<K::Doors, K::Outlet, K::Pacer, K::Store, K::Clock>>,
+    pub unused: Option<Jobs<K>>,
 }
 
 /// Serves by the configuration of this name, with the kits of the desk. Sends RTP and RTCP inside

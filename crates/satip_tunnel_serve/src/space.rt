@@ -7,6 +7,7 @@ ghost use Rattle.satip_tunnel_serve.specs.Asides.{IsSpareFor};
 use crate::aside::Spare;
 use crate::run::TunnelSpace;
 use satip_base::{Out, Want, with_room};
+use satip_desk::Devices;
 use satip_jobs::Space;
 use satip_serve::{make_gears, make_pump_rooms};
 use satip_tunnel::WorkerRoom;
@@ -14,12 +15,29 @@ use std::alloc::Global;
 
 /// All memory that the jobs take, apart from their kits.
 #[derive(Drop)]
-pub(crate) struct Memory<X, D, O, P, M> {
-    pub space: TunnelSpace<X, D, WorkerRoom, P, M>,
+pub(crate) struct Memory<S, A> {
+    pub space: S,
     pub worker_gears: Vec<()>,
     pub pump_gears: Vec<()>,
-    pub spare: Spare<D, O, P, M>,
+    pub spare: A,
 }
+
+// The memory of the jobs with these devices.
+type JobSpace<X, K> = TunnelSpace<
+    X,
+    <K as Devices>::Doors,
+    WorkerRoom,
+    <K as Devices>::Pacer,
+    <K as Devices>::Store,
+>;
+
+// The lists for the kits of these devices without outlets, and for the outlets.
+type SpareLists<K> = Spare<
+    <K as Devices>::Doors,
+    <K as Devices>::Outlet,
+    <K as Devices>::Pacer,
+    <K as Devices>::Store,
+>;
 
 fn make_rooms(alloc: Global, count: usize) -> Result<Vec<WorkerRoom>, Want>
     ensures count { IfOk result (λ rooms. length rooms.items ≡ count) }
@@ -31,11 +49,11 @@ fn make_rooms(alloc: Global, count: usize) -> Result<Vec<WorkerRoom>, Want>
     Ok(rooms)
 }
 
-fn take_spare<D: Drop, O: Drop, P: Drop, M: Drop>(
+fn take_spare<K: Devices>(
     alloc: Global,
     workers: usize,
     pumps: usize,
-) -> Result<Spare<D, O, P, M>, Want>
+) -> Result<SpareLists<K>, Want>
     ensures workers { IfOk result (λ spare. IsSpareFor workers spare.workers.items
         (vec_capacity spare.workers) spare.worker_outlets.items
         (vec_capacity spare.worker_outlets)) }
@@ -51,11 +69,11 @@ fn take_spare<D: Drop, O: Drop, P: Drop, M: Drop>(
 }
 
 // Takes the memory for jobs at their seats.
-fn take_space<X: Drop, D: Drop, P: Drop, M: Drop>(
+fn take_space<X: Drop, K: Devices>(
     alloc: Global,
     workers: usize,
     pumps: usize,
-) -> Result<TunnelSpace<X, D, WorkerRoom, P, M>, Want>
+) -> Result<JobSpace<X, K>, Want>
     ensures worker_rooms { IfOk result (λ space. length space.worker_rooms.items ≡ workers) }
     ensures workers { IfOk result (λ space. space.workers.items ≡ []) }
     ensures worker_space { IfOk result (λ space. workers ≤ vec_capacity space.workers) }
@@ -74,11 +92,11 @@ fn take_space<X: Drop, D: Drop, P: Drop, M: Drop>(
 }
 
 /// Takes the memory for all workers and pumps. Returns `Want` if it was refused.
-pub(crate) fn take_memory<X: Drop, D: Drop, O: Drop, P: Drop, M: Drop>(
+pub(crate) fn take_memory<X: Drop, K: Devices>(
     alloc: Global,
     workers: usize,
     pumps: usize,
-) -> Result<Memory<X, D, O, P, M>, Want>
+) -> Result<Memory<JobSpace<X, K>, SpareLists<K>>, Want>
     ensures workers { IfOk result (λ memory. IsSpaceFor workers memory.worker_gears.items
         memory.space.worker_rooms.items memory.space.workers.items
         (vec_capacity memory.space.workers)) }
@@ -95,7 +113,7 @@ pub(crate) fn take_memory<X: Drop, D: Drop, O: Drop, P: Drop, M: Drop>(
     Ok(Memory {
         worker_gears: make_gears(alloc, workers)?,
         pump_gears: make_gears(alloc, pumps)?,
-        spare: take_spare(alloc, workers, pumps)?,
-        space: take_space(alloc, workers, pumps)?,
+        spare: take_spare::<K>(alloc, workers, pumps)?,
+        space: take_space::<X, K>(alloc, workers, pumps)?,
     })
 }

@@ -13,7 +13,7 @@ returns-in-Some-Serve-clause-ends g c =
     (service_back (Serve _ _) _ (λ other. let never : ⊥ = cc in absurd never) (λ a. none_seen _ _ c.run_serve.ensures.no_tunnel)
     (none_seen _ _ c.run_serve.ensures.no_client.0, none_seen _ _ c.run_serve.ensures.no_client.1, none_seen _ _ c.run_serve.ensures.no_client.2)
     (λ a. none_viewed _ _ _ c.run_serve.ensures.no_journals))
-    (serve_tells _ (Serve _ _) _ _ _ _ _ _ _ c.run_serve.ensures.ends.status_is c.run_serve.ensures.ends.input c.run_serve.ensures.errors)))
+    (serve_tells _ (Serve _ _) _ _ _ _ _ _ _ c.run_serve.ensures.ends.status_is c.run_serve.ensures.ends.input c.run_serve.ensures.logs)))
 
 pub returns-in-Some-Tunnel-clause-ends : goal.returns-in-Some-Tunnel-clause-ends
 returns-in-Some-Tunnel-clause-ends g c =
@@ -24,7 +24,7 @@ returns-in-Some-Tunnel-clause-ends g c =
     (service_back (Tunnel _ _) _ (λ a. none_seen _ _ c.run_tunnel.ensures.no_last) (λ other. let never : ⊥ = cc in absurd never)
     (none_seen _ _ c.run_tunnel.ensures.no_client.0, none_seen _ _ c.run_tunnel.ensures.no_client.1, none_seen _ _ c.run_tunnel.ensures.no_client.2)
     (λ a. none_viewed _ _ _ c.run_tunnel.ensures.no_journals))
-    (serve_tells _ (Tunnel _ _) _ _ _ _ _ _ _ c.run_tunnel.ensures.ends.status_is c.run_tunnel.ensures.ends.input c.run_tunnel.ensures.errors)))
+    (serve_tells _ (Tunnel _ _) _ _ _ _ _ _ _ c.run_tunnel.ensures.ends.status_is c.run_tunnel.ensures.ends.input c.run_tunnel.ensures.logs)))
 
 pub returns-in-Some-Journal-clause-ends : goal.returns-in-Some-Journal-clause-ends
 returns-in-Some-Journal-clause-ends g c =
@@ -36,4 +36,4 @@ returns-in-Some-Journal-clause-ends g c =
     (none_seen _ _ c.run_journal.ensures.no_client.0, none_seen _ _ c.run_journal.ensures.no_client.1, none_seen _ _ c.run_journal.ensures.no_client.2)
     (λ other. let never : ⊥ = cc in absurd never))
     (service_tells _ (Journal _ _) _ _ _ _ _ _ _ c.run_journal.ensures.of_journal (λ other is. let never : ⊥ = cc in absurd never)
-    c.run_journal.ensures.input_fault c.run_journal.ensures.errors)))
+    c.run_journal.ensures.input_fault c.run_journal.ensures.logs)))

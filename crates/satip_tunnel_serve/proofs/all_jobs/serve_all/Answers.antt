@@ -19,16 +19,16 @@ run_silent-pass-requires-clause-ready g c κs within =
       of = ready.of;
       knows = ready.knows;
       first = ready.first;
-      workers = ap (λ (ks : List (WorkerKit g.row.D.Denot Silent g.row.P.Denot)). length ks) aside.workers ∙ length-map c.args.jobs.workers.items _
+      workers = ap (λ (ks : List (WorkerKit g.row.K-Doors.Denot Silent g.row.K-Pacer.Denot)). length ks) aside.workers ∙ length-map c.args.jobs.workers.items _
           ∙ ready.workers;
-      pumps = ap (λ (ks : List (PumpKit g.row.M.Denot Silent g.row.P.Denot)). length ks) aside.pumps ∙ length-map c.args.jobs.pumps.items _ ∙ ready.pumps;
+      pumps = ap (λ (ks : List (PumpKit g.row.K-Store.Denot Silent g.row.K-Pacer.Denot)). length ks) aside.pumps ∙ length-map c.args.jobs.pumps.items _ ∙ ready.pumps;
     }
 
 pub returns-in-Ok-clause-ran : goal.returns-in-Ok-clause-ran
 returns-in-Ok-clause-ran g c =
-    let hall = g.D.Doors.hall in
-    let shelf = g.M.MuxStore.shelf in
-    let dial = g.C.Clock.dial in
+    let hall = g.K.Doors.Doors.hall in
+    let shelf = g.K.Store.MuxStore.shelf in
+    let dial = g.K.Clock.Clock.dial in
     let jobs = c.args.jobs in
     let quiet = c.put_aside-silent.result.0 in
     let back = c.run_silent-pass.result.1 in
@@ -40,9 +40,9 @@ returns-in-Ok-clause-ran g c =
     let left = sounded_seen hall shelf dial jobs quiet back _ _ _ last aside.workers aside.pumps aside.worker_outlets aside.pump_outlets ran.worker_count
     ran.pump_count
     again.workers again.pumps again.tick in
-    subst (λ (v : JobsView). HaveTunneled g.D.Conn.Conn.tells (FreshJobs c.args.server.now.setting.start) c.args.server.now v c.run_silent-pass.result.0
+    subst (λ (v : JobsView). HaveTunneled g.K.Doors.Conn.Conn.tells (FreshJobs c.args.server.now.setting.start) c.args.server.now v c.run_silent-pass.result.0
     (jobs_seen hall shelf dial last) c.run_silent-pass.result.2) given
-    (subst (λ (v : JobsView). HaveTunneled g.D.Conn.Conn.tells (FreshJobs c.args.server.now.setting.start) c.args.server.now (jobs_seen hall shelf dial quiet)
+    (subst (λ (v : JobsView). HaveTunneled g.K.Doors.Conn.Conn.tells (FreshJobs c.args.server.now.setting.start) c.args.server.now (jobs_seen hall shelf dial quiet)
     c.run_silent-pass.result.0 v c.run_silent-pass.result.2) (sym left) ran.ran)
 
 pub returns-in-Ok-clause-outlets : goal.returns-in-Ok-clause-outlets

@@ -3,7 +3,7 @@ use Rattle.std.proofs.Common.{rules, ◌≡◌, refl, ap}
 use Rattle.satip_plain.specs.declared.setting.Setting.{Setting}
 use Rattle.satip_turn.specs.Shown.{first_pass}
 use Rattle.satip_desk.specs.Views.{JobsView}
-use Rattle.satip_desk.specs.declared.kits.Jobs.{Jobs}
+use Rattle.satip_desk.specs.declared.kits.JobKits.{JobKits}
 use Rattle.satip_serve.proofs.Starting.{is_first}
 use Rattle.satip_tunnel_serve.specs.Views.{jobs_seen}
 use Rattle.satip_tunnel_serve.proofs.Starting.{from_start}
@@ -23,10 +23,10 @@ serve_all-requires-clause-ready g c κs within =
 pub returns-in-Ok-serve_all-clause-ran : goal.returns-in-Ok-serve_all-clause-ran
 returns-in-Ok-serve_all-clause-ran g c =
     let setting : c.in-Ok.server.setting ≡ record { config = c.args.config; start = c.now-start.result } = search rules in
-    let jobs : Jobs g.row.D.Denot g.row.O.Denot g.row.P.Denot g.row.M.Denot g.row.C.Denot =
+    let jobs : JobKits g.row.K-Doors.Denot g.row.K-Outlet.Denot g.row.K-Pacer.Denot g.row.K-Store.Denot g.row.K-Clock.Denot =
     record c.args.jobs { tick = record c.args.jobs.tick { clock = c.now-start.new.self } } in
-    let given : JobsView = jobs_seen g.D.Doors.hall g.M.MuxStore.shelf g.C.Clock.dial c.args.jobs in
-    let now : JobsView = jobs_seen g.D.Doors.hall g.M.MuxStore.shelf g.C.Clock.dial jobs in
+    let given : JobsView = jobs_seen g.K.Doors.Doors.hall g.K.Store.MuxStore.shelf g.K.Clock.Clock.dial c.args.jobs in
+    let now : JobsView = jobs_seen g.K.Doors.Doors.hall g.K.Store.MuxStore.shelf g.K.Clock.Clock.dial jobs in
     let ran = c.in-Ok-serve_all.ensures.ran in
     record {
       of = ran.of;

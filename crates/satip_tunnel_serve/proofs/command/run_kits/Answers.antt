@@ -11,7 +11,7 @@ use Rattle.satip_tunnel_serve.proofs.command.run_kits.Goals as goal
 
 pub returns-in-Ok-clause-ran : goal.returns-in-Ok-clause-ran
 returns-in-Ok-clause-ran g c =
-    let fresh = fresh_seen g.D.Doors.hall g.O.Outlet.outbox g.M.MuxStore.shelf g.C.Clock.dial c.args._accepts c.args.jobs c.requires.fresh in
+    let fresh = fresh_seen g.K.Doors.Doors.hall g.K.Outlet.Outlet.outbox g.K.Store.MuxStore.shelf g.K.Clock.Clock.dial c.args._accepts c.args.jobs c.requires.fresh in
     let ran = c.in-Ok.ensures.ran in
     let run = ran.jobs.run c.args._accepts fresh in
     let laws = c.keeps_laws.ensures in
@@ -27,16 +27,16 @@ returns-in-Ok-clause-ran g c =
       recordings = tunnel_plays _ _ _ _ _ run laws.recordings;
       frames = c.connections_have_lanes.ensures.law _ _ _ _ run;
       channels = payloads_sent _ _ (run_asks _ _ _ _ _ run) ran.knows.lawful laws.numbers laws.channels;
-      kits_left = come_back_as g.D.Doors.hall no_outbox g.O.Outlet.outbox g.M.MuxStore.shelf g.C.Clock.dial c.args.jobs c.in-Ok.last.jobs ran.jobs.kits_left;
-      outlets = outlets_stay g.D.Doors.hall g.O.Outlet.outbox g.M.MuxStore.shelf g.C.Clock.dial c.args.jobs c.in-Ok.last.jobs c.in-Ok.ensures.outlets;
+      kits_left = come_back_as g.K.Doors.Doors.hall no_outbox g.K.Outlet.Outlet.outbox g.K.Store.MuxStore.shelf g.K.Clock.Clock.dial c.args.jobs c.in-Ok.last.jobs ran.jobs.kits_left;
+      outlets = outlets_stay g.K.Doors.Doors.hall g.K.Outlet.Outlet.outbox g.K.Store.MuxStore.shelf g.K.Clock.Clock.dial c.args.jobs c.in-Ok.last.jobs c.in-Ok.ensures.outlets;
       ends = tunnel_end c.in-Ok.end _ _ (ran.jobs.ended c.args._accepts fresh);
     })
 
 pub returns-in-Err-clause-kits_unused : goal.returns-in-Err-clause-kits_unused
 returns-in-Err-clause-kits_unused g c =
-    come_unused g.D.Doors.hall g.O.Outlet.outbox g.M.MuxStore.shelf g.C.Clock.dial c.args.jobs c.in-Err.jobs c.in-Err.ensures.unused
+    come_unused g.K.Doors.Doors.hall g.K.Outlet.Outlet.outbox g.K.Store.MuxStore.shelf g.K.Clock.Clock.dial c.args.jobs c.in-Err.jobs c.in-Err.ensures.unused
 
 pub returns-in-Err-clause-unused_kits : goal.returns-in-Err-clause-unused_kits
 returns-in-Err-clause-unused_kits g c =
-    unused_of g.D.Doors.hall g.O.Outlet.outbox g.M.MuxStore.shelf g.C.Clock.dial c.args._accepts c.args.jobs c.in-Err.jobs
+    unused_of g.K.Doors.Doors.hall g.K.Outlet.Outlet.outbox g.K.Store.MuxStore.shelf g.K.Clock.Clock.dial c.args._accepts c.args.jobs c.in-Err.jobs
     c.requires.fresh c.in-Err.ensures.unused
