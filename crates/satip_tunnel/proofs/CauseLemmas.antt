@@ -1,5 +1,5 @@
 -- The causes of a connection's ends.
-use Rattle.std.proofs.Common.{◌≡◌, ◌≢◌, ◌∙◌, ℕ, Bool, List, [], ◌∷◌, ◌++◌, length, map, drop, refl, sym, ap, subst, inl, inr, ⊎_elim}
+use Rattle.std.proofs.Common.{◌≡◌, ◌≢◌, ◌∙◌, ℕ, List, [], ◌∷◌, ◌++◌, length, map, drop, refl, sym, ap, subst, inl, inr, ⊎_elim}
 use Rattle.std.specs.Prelude.{◌⊎◌, ◌↔◌}
 use Rattle.std.proofs.Math.Seq.{drop-append_seam}
 use Rattle.std.proofs.lemmas.List.{map-append}
@@ -13,19 +13,16 @@ use Rattle.satip_interleave.specs.declared.events.TunnelEvent.{TunnelEvent}
 use Rattle.satip_interleave.specs.declared.events.TunnelEvent.TheVariants.{Inner, Enter, Drain, Leave}
 use Rattle.satip_interleave.specs.declared.events.TunnelAnswer.{TunnelAnswer}
 use Rattle.satip_interleave.specs.declared.events.TunnelAnswer.TheVariants.{Inner as InnerAnswer, Lane, Full as no_lane, Frames, Empty, Broken as lane_broken, Gone, Left}
-use Rattle.satip_interleave.specs.Histories.{TunnelItem, inners}
-use Rattle.satip_world.specs.Counts.{Rises}
+use Rattle.satip_interleave.specs.Histories.{TunnelItem}
 use Rattle.satip_world.specs.Lines.{Line}
-use Rattle.satip_worker.specs.Answers.{ends_with_last}
-use Rattle.satip_worker.specs.Ends.{IsOver, ReadFailed}
-use Rattle.satip_worker.specs.Progress.{SameFaults}
 use Rattle.satip_tunnel.specs.declared.ends.TunnelEnd.{TunnelEnd}
 use Rattle.satip_tunnel.specs.declared.ends.TunnelEnd.TheVariants.{Full, Broken, Done, ReadFault, WriteFault, Spent}
 use Rattle.satip_tunnel.specs.Walk.{Stance, Free, Draining, Over, Walk, Follows, FollowsAsked, DrainsTo, IsReplied}
 use Rattle.satip_tunnel.specs.Seats.{Seat, SeesFull, made_since, IsAnsweredBy}
-use Rattle.satip_tunnel.specs.Ends.{StopsAt, IsLeave, IsGivenUp, IsUnleft, Leaves, LineEnds}
+use Rattle.satip_tunnel.specs.Ends.{StopsAt, IsLeave, IsGivenUp, IsUnleft, Leaves}
 use Rattle.satip_tunnel.specs.TunnelRun.{LaneRun, TunnelRun, EnteredRun}
 use Rattle.satip_tunnel.specs.Served.{ServesTunnel}
+use Rattle.satip_tunnel.specs.Causes.{HasCause, HeldLane, EndedSpent}
 
 -- ---- what is answered on a walk
 
@@ -339,54 +336,42 @@ module _ (draws : List Draw) (received sent : List ℕ) (full : Type 0) (end : T
   run_spent [] run e = run.1.filled
   run_spent (t ∷ ts) run e = entered_spent t.answer ts run.1 e
 
--- ---- what is shown
+-- ---- the cause of each end
 
-not_unread : (ended over : Bool) (o n : Line) → n.ended ≡ ended → IsOver ended over → ReadFailed o n over → ⊥
-not_unread ended over o n is (inl at_end) failed = let a = failed.goes_on in let b = at_end.0 in cc (a, b, is)
-not_unread ended over o n is (inr closed) failed = let a = failed.unanswered in let b = closed.1 in cc (a, b)
+module _ (tells : Type 0) (before after : ChaCha) (o n : Seat) (l m : Line) where
+  held : (end : TunnelEnd) (s : ServesTunnel tells before after o n l m end) → end ≢ Full → end ≢ Broken → HeldLane s.entries
+  held end s given unbroken = record {
+    given = λ has. given ((run_full s.draws s.received s.sent (SeesFull n) end s.entries s.run).1 has);
+    unbroken = λ has. unbroken ((run_broken s.draws s.received s.sent (SeesFull n) end s.entries s.run).1 has);
+  }
 
-module _ (tells : Type 0) (before after : ChaCha) (o n : Seat) (l m : Line) (end : TunnelEnd) (s : ServesTunnel tells before after o n l m end) where
-  since : made_since o.pass n.pass ≡ s.entries
-  since = ap (λ (h : List TunnelItem). drop (length o.pass.own) h) s.grows.own ∙ drop-append_seam o.pass.own s.entries
+  caused : (end : TunnelEnd) (s : ServesTunnel tells before after o n l m end) → HasCause end s.entries l m (SeesFull n)
+  caused Full s = record {
+    refused = (run_full s.draws s.received s.sent (SeesFull n) Full s.entries s.run).0 refl;
+    unbroken = λ has. let e = (run_broken s.draws s.received s.sent (SeesFull n) Full s.entries s.run).1 has in cc e;
+  }
+  caused Broken s = record {
+    given = λ has. let e = (run_full s.draws s.received s.sent (SeesFull n) Broken s.entries s.run).1 has in cc e;
+    broke = (run_broken s.draws s.received s.sent (SeesFull n) Broken s.entries s.run).0 refl;
+  }
+  caused Done s = record { held = held Done s (λ e. cc e) (λ e. cc e); well = s.line_ends }
+  caused ReadFault s = record { held = held ReadFault s (λ e. cc e) (λ e. cc e); failed = s.line_ends }
+  caused WriteFault s = record { held = held WriteFault s (λ e. cc e) (λ e. cc e); failed = s.line_ends }
+  caused Spent s = record {
+    held = held Spent s (λ e. cc e) (λ e. cc e);
+    filled = run_spent s.draws s.received s.sent (SeesFull n) Spent s.entries s.run refl;
+  }
 
-  pub full_cause : (end ≡ Full) ↔ IsAnsweredBy no_lane (made_since o.pass n.pass)
-  full_cause =
-      let P : List TunnelItem → Type 0 = λ es. (end ≡ Full) ↔ IsAnsweredBy no_lane es in
-      subst P (sym since) (run_full s.draws s.received s.sent (SeesFull n) end s.entries s.run)
+  pub has_cause : (end : TunnelEnd) (s : ServesTunnel tells before after o n l m end) → HasCause end (made_since o.pass n.pass) l m (SeesFull n)
+  has_cause end s =
+      let since : made_since o.pass n.pass ≡ s.entries =
+      ap (λ (h : List TunnelItem). drop (length o.pass.own) h) s.grows.own ∙ drop-append_seam o.pass.own s.entries in
+      let P : List TunnelItem → Type 0 = λ es. HasCause end es l m (SeesFull n) in
+      subst P (sym since) (caused end s)
 
-  pub broken_cause : (end ≡ Broken) ↔ IsAnsweredBy lane_broken (made_since o.pass n.pass)
-  broken_cause =
-      let P : List TunnelItem → Type 0 = λ es. (end ≡ Broken) ↔ IsAnsweredBy lane_broken es in
-      subst P (sym since) (run_broken s.draws s.received s.sent (SeesFull n) end s.entries s.run)
-
-  pub done_cause : end ≡ Done → IsOver m.ended (ends_with_last (inners (made_since o.pass n.pass)))
-  done_cause is =
-      let E : TunnelEnd → Type 0 = λ e. LineEnds e l m (ends_with_last (inners s.entries)) in
-      let P : List TunnelItem → Type 0 = λ es. IsOver m.ended (ends_with_last (inners es)) in
-      subst P (sym since) (subst E is s.line_ends).is_over
-
-  pub calm_cause : end ≡ Done → SameFaults l m
-  calm_cause is =
-      let E : TunnelEnd → Type 0 = λ e. LineEnds e l m (ends_with_last (inners s.entries)) in
-      (subst E is s.line_ends).calm
-
-  read_failed : end ≡ ReadFault → ReadFailed l m (ends_with_last (inners s.entries))
-  read_failed is =
-      let E : TunnelEnd → Type 0 = λ e. LineEnds e l m (ends_with_last (inners s.entries)) in
-      subst E is s.line_ends
-
-  pub over_cause : IsOver m.ended (ends_with_last (inners (made_since o.pass n.pass))) → end ≢ ReadFault
-  over_cause over is =
-      let P : List TunnelItem → Type 0 = λ es. IsOver m.ended (ends_with_last (inners es)) in
-      not_unread m.ended (ends_with_last (inners s.entries)) l m refl (subst P since over) (read_failed is)
-
-  pub read_cause : end ≡ ReadFault → Rises l.receive_faults m.receive_faults
-  read_cause is = (read_failed is).faults
-
-  pub write_cause : end ≡ WriteFault → Rises l.send_faults m.send_faults
-  write_cause is =
-      let E : TunnelEnd → Type 0 = λ e. LineEnds e l m (ends_with_last (inners s.entries)) in
-      (subst E is s.line_ends).faults
-
-  pub spent_cause : end ≡ Spent → length n.pass.seen ≡ 18446744073709551615
-  spent_cause is = run_spent s.draws s.received s.sent (SeesFull n) end s.entries s.run is
+-- a connection that ended by a full history saw it
+pub spent_filled : (end : TunnelEnd) (made : List TunnelItem) (l m : Line) (full : Type 0) → end ≡ Spent → HasCause end made l m full → full
+spent_filled end made l m full is cause =
+    let P : TunnelEnd → Type 0 = λ e. HasCause e made l m full in
+    let spent : EndedSpent made full = subst P is cause in
+    spent.filled

@@ -6,6 +6,7 @@ pub mod Seats
 pub mod Ends
 pub mod TunnelRun
 pub mod Served
+pub mod Causes
 pub mod Events
 pub mod Exchanges
 pub mod Hearing

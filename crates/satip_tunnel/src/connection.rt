@@ -1,26 +1,21 @@
 //! One RTSP connection of a tunnel.
-ghost use Rattle.std.specs.Prelude.{◌≡◌, ◌≢◌, ◌↔◌, ◌⊎◌, ℕ, length};
+ghost use Rattle.std.specs.Prelude.{◌≡◌, ◌⊎◌, ℕ};
 ghost use Rattle.satip_base.specs.Lists.{Begins};
 ghost use Rattle.satip_rtsp_interleaved.specs.Held.{new_parter};
-ghost use Rattle.satip_interleave.specs.declared.events.TunnelAnswer.{TunnelAnswer};
-ghost use Rattle.satip_interleave.specs.Histories.{inners};
 ghost use Rattle.satip_turn.specs.Shown.{Keeps};
-ghost use Rattle.satip_world.specs.Counts.{Rises};
 ghost use Rattle.satip_pump.specs.PumpRuns.{RoseBy};
-ghost use Rattle.satip_worker.specs.Answers.{ends_with_last};
-ghost use Rattle.satip_worker.specs.Ends.{IsOver};
-ghost use Rattle.satip_worker.specs.Progress.{SameFaults};
+ghost use Rattle.satip_tunnel.specs.Causes.{HasCause};
 ghost use Rattle.satip_tunnel.specs.Ends.{unleft_end};
 ghost use Rattle.satip_tunnel.specs.Hearing.{Talked, Left, Unleft, Finishes, talk_at};
 ghost use Rattle.satip_tunnel.specs.Pauses.{PausesIdle};
-ghost use Rattle.satip_tunnel.specs.Seats.{seated, made_since, IsAnsweredBy};
+ghost use Rattle.satip_tunnel.specs.Seats.{seated, made_since, SeesFull};
 ghost use Rattle.satip_tunnel.specs.Served.{ServesTunnel};
 
 use crate::ends::{Entered, Heard, TunnelEnd, Way};
 use crate::events::{enter, leave};
 use crate::exchanges::drain_all;
 use crate::hearing::hear_piece;
-use satip_base::limits::{LONGEST_HISTORY, PIECE};
+use satip_base::limits::PIECE;
 use satip_base::{Out, Spent};
 use satip_interleave::{TunnelCaller, TunnelRoom};
 use satip_worker::Draws;
@@ -158,27 +153,10 @@ pub fn serve_tunnel<R: Wait + Sync, C: Conn, P: Pacer>(
     ensures pauses { PausesIdle C.tells caller.old.pass.own caller.new.pass.own
         (C.line conn.old) (C.line conn.new) (P.pauses pacer.old) (P.pauses pacer.new) }
 
-    // The cause of `Full` and of `Broken`.
-    ensures full { (result ≡ TunnelEnd.Full)
-        ↔ IsAnsweredBy TunnelAnswer.Full (made_since caller.old.pass caller.new.pass) }
-    ensures broken { (result ≡ TunnelEnd.Broken)
-        ↔ IsAnsweredBy TunnelAnswer.Broken (made_since caller.old.pass caller.new.pass) }
-
-    // After `Done`, either the input ended or a closing reply was sent, and no receive and no send
-    // failed. If the connection is over so, the end isn't `ReadFault`.
-    ensures done { result ≡ TunnelEnd.Done → IsOver (C.line conn.new).ended
-        (ends_with_last (inners (made_since caller.old.pass caller.new.pass))) }
-    ensures calm { result ≡ TunnelEnd.Done → SameFaults (C.line conn.old) (C.line conn.new) }
-    ensures over { IsOver (C.line conn.new).ended
-        (ends_with_last (inners (made_since caller.old.pass caller.new.pass)))
-        → result ≢ TunnelEnd.ReadFault }
-
-    // The causes of the other ends.
-    ensures read_fault { result ≡ TunnelEnd.ReadFault
-        → Rises (C.line conn.old).receive_faults (C.line conn.new).receive_faults }
-    ensures write_fault { result ≡ TunnelEnd.WriteFault
-        → Rises (C.line conn.old).send_faults (C.line conn.new).send_faults }
-    ensures spent { result ≡ TunnelEnd.Spent → length caller.new.pass.seen ≡ LONGEST_HISTORY }
+    // The cause of the end.
+    ensures cause { HasCause result (made_since caller.old.pass caller.new.pass)
+        (C.line conn.old) (C.line conn.new)
+        (SeesFull (seated caller.new.server.now caller.new.pass)) }
 {
     serve(caller, conn, pacer, draws, room)
 }

@@ -1,7 +1,9 @@
 //! Worked examples of walks, wires and runs, as the contract of a function with an empty body.
-ghost use Rattle.std.specs.Prelude.{◌≡◌, [], ◌∷◌, ◌++◌, codes};
+ghost use Rattle.std.specs.Prelude.{◌≡◌, [], ◌∷◌, ◌++◌, codes, true};
 ghost use Rattle.satip_rtsp_interleaved.specs.Rows.{setup_with};
 ghost use Rattle.satip_interleave.specs.declared.events.TunnelAnswer.TheVariants.{Lane, Full as NoLane, Frames, Empty, Broken as LaneBroken, Gone};
+ghost use Rattle.satip_world.specs.Lines.{fresh_line};
+ghost use Rattle.satip_tunnel.specs.Causes.{HasCause};
 ghost use Rattle.satip_tunnel.specs.declared.ends.TunnelEnd.TheVariants.{Full, Broken, Done, ReadFault, WriteFault, Spent};
 ghost use Rattle.satip_tunnel.specs.Rows.{asks, drains, enters, leaves};
 ghost use Rattle.satip_tunnel.specs.TunnelRun.{TunnelRun};
@@ -55,4 +57,35 @@ pub fn worked_rows()
         (enters (Lane 3) ∷ drains 3 LaneBroken [] ∷ []) }
     ensures spent { TunnelRun [] [] [] (Unit {0}) Spent (enters (Lane 3) ∷ []) }
     ensures not_spent { ¬ (TunnelRun [] [] [] ⊥ Spent (enters (Lane 3) ∷ [])) }
+{}
+
+/// Shows the cause of each end, by what was answered and by the connection's line.
+pub fn worked_causes()
+    ensures full { HasCause Full (enters NoLane ∷ []) fresh_line fresh_line ⊥ }
+    ensures not_full { ¬ (HasCause Full (enters (Lane 3) ∷ leaves 3 ∷ [])
+        fresh_line fresh_line ⊥) }
+    ensures broken { HasCause Broken (enters (Lane 3) ∷ drains 3 LaneBroken [] ∷ leaves 3 ∷ [])
+        fresh_line fresh_line ⊥ }
+    ensures done { HasCause Done (enters (Lane 3) ∷ leaves 3 ∷ [])
+        fresh_line (record fresh_line { ended = true }) ⊥ }
+
+    // Neither with a broken lane, nor while the input goes on.
+    ensures not_done { ¬ (HasCause Done (enters (Lane 3) ∷ drains 3 LaneBroken [] ∷ leaves 3 ∷ [])
+        fresh_line (record fresh_line { ended = true }) ⊥) }
+    ensures goes_on { ¬ (HasCause Done (enters (Lane 3) ∷ leaves 3 ∷ [])
+        fresh_line fresh_line ⊥) }
+    ensures unread { HasCause ReadFault (enters (Lane 3) ∷ leaves 3 ∷ [])
+        fresh_line (record fresh_line { receive_faults = 1 }) ⊥ }
+
+    // Not while no receive has failed, nor after the end of the input.
+    ensures not_unread { ¬ (HasCause ReadFault (enters (Lane 3) ∷ leaves 3 ∷ [])
+        fresh_line fresh_line ⊥) }
+    ensures read { ¬ (HasCause ReadFault (enters (Lane 3) ∷ leaves 3 ∷ [])
+        fresh_line (record fresh_line { ended = true; receive_faults = 1 }) ⊥) }
+    ensures unsent { HasCause WriteFault (enters (Lane 3) ∷ drains 3 (Frames 5) [] ∷ leaves 3 ∷ [])
+        fresh_line (record fresh_line { send_faults = 1 }) ⊥ }
+    ensures not_unsent { ¬ (HasCause WriteFault (enters (Lane 3) ∷ leaves 3 ∷ [])
+        fresh_line fresh_line ⊥) }
+    ensures spent { HasCause Spent (enters (Lane 3) ∷ []) fresh_line fresh_line (Unit {0}) }
+    ensures not_spent { ¬ (HasCause Spent (enters (Lane 3) ∷ []) fresh_line fresh_line ⊥) }
 {}

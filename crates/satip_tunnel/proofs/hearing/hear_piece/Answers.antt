@@ -1,4 +1,4 @@
-use Rattle.std.proofs.Common.{◌++◌, ◌∙◌, refl}
+use Rattle.std.proofs.Common.{◌∙◌, refl}
 use Rattle.satip_tunnel.specs.declared.ends.Heard.TheVariants.{Closed, Broken, Lost, Spent}
 use Rattle.satip_tunnel.proofs.RunLemmas.{piece_heard}
 use Rattle.satip_tunnel.proofs.hearing.hear_piece.Goals as goal

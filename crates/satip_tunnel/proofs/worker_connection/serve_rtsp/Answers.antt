@@ -1,4 +1,5 @@
 use Rattle.std.proofs.Common.{◌∙◌, sym}
+use Rattle.satip_tunnel.proofs.CauseLemmas.{spent_filled}
 use Rattle.satip_tunnel.proofs.ConnLemmas.{rtsp_served, only_spent, never_wants}
 use Rattle.satip_tunnel.proofs.worker_connection.serve_rtsp.Goals as goal
 
@@ -7,7 +8,8 @@ returns-clause-serves g c = λ peer key stream from are.
     rtsp_served _ _ _ _ _ _ _ _ _ peer key stream from c.conn_end.ensures.end are c.serve_tunnel.ensures.serves
 
 pub returns-clause-spent : goal.returns-clause-spent
-returns-clause-spent g c = λ is. c.serve_tunnel.ensures.spent (only_spent _ (sym c.conn_end.ensures.end ∙ is))
+returns-clause-spent g c = λ is.
+    spent_filled _ _ _ _ _ (only_spent _ (sym c.conn_end.ensures.end ∙ is)) c.serve_tunnel.ensures.cause
 
 pub returns-clause-no_want : goal.returns-clause-no_want
 returns-clause-no_want g c = λ is. never_wants _ (sym c.conn_end.ensures.end ∙ is)
