@@ -1,15 +1,16 @@
 #!/usr/bin/env python3
-"""Measures what journals cost: the CPU of `satip journal` and of `satip serve`, each to 16 receivers,
-and the CPU, time and memory of `satip audit` on journals of 16, 32 and 60 MiB.
+"""Measures what journals cost: the CPU of `satip journal` and of `satip serve`, each to 16
+receivers, and the CPU, time and memory of `satip audit` on journals of 16, 32 and 60 MiB.
 
     python3 bench/journal.py [PROGRAM [SECONDS]]
 
 SECONDS, 6 without the word, is how long each server is measured. CPU is that of all threads, by
-/proc/PID/task/*/schedstat; an audit's is what the system tells of it when it ended. The journals of
-an audit are those of a server with one receiver that was killed when they had the size.
+/proc/PID/task/*/schedstat, the least of five rounds; an audit's is what the system tells of it when
+it ended. The journals of an audit are those of a server with one receiver that was killed when they
+had the size. The first line says how many processors the machine kept busy before.
 
-PROGRAM is SATIP_PROGRAM or crates/satip/out/satip without the word; `cd crates/satip && rt run --
---version` builds it. Needs python3 alone."""
+PROGRAM is SATIP_PROGRAM or crates/satip/out/satip without the word, which `tools/program_alone.sh`
+builds. Needs python3 alone."""
 import glob
 import os
 import subprocess
@@ -20,10 +21,10 @@ TOP = os.path.dirname(os.path.dirname(os.path.abspath(__file__)))
 sys.path.insert(0, os.path.join(TOP, "trials"))
 sys.dont_write_bytecode = True
 from lib.rtp import PACKET, Receivers
-from lib.server import QUERY, Server, cpu_seconds, use_program
+from lib.server import QUERY, Server, busy_processors, cpu_seconds, use_program
 
 ADDRESS = "127.0.0.1"
-RECEIVERS = 16
+RECEIVERS, ROUNDS = 16, 5
 MEBIBYTES = (16, 32, 60)
 
 
@@ -90,16 +91,26 @@ def audit(program, mebibytes):
         server.close()
 
 
-def main():
-    program = use_program(sys.argv[1:2])
-    seconds = float(sys.argv[2]) if len(sys.argv) > 2 else 6
-    plain, missing = seconds_a_million("serve", int(seconds))
-    written_down, lost = seconds_a_million("journal", int(seconds))
+def measure_journals(seconds):
+    """What `journal` and `serve` use, by turns."""
+    told = {"serve": [], "journal": []}
+    for _ in range(ROUNDS):
+        for command, rounds in told.items():
+            rounds.append(seconds_a_million(command, seconds))
+    plain, journaled = (min(used for used, _ in it) for it in told.values())
+    missing, lost = (sum(it for _, it in rounds) for rounds in told.values())
     print(
-        f"{RECEIVERS} receivers: serve {plain:.3f} s of CPU a million packets, journal "
-        f"{written_down:.3f} s: factor {written_down / plain:.2f}; missing {missing} and {lost}",
+        f"{RECEIVERS} receivers: factor {journaled / plain:.2f}: journal {journaled:.3f} s of CPU "
+        f"a million packets, serve {plain:.3f} s; missing {lost} and {missing}",
         flush=True,
     )
+
+
+def main():
+    program = use_program(sys.argv[1:2])
+    seconds = int(sys.argv[2]) if len(sys.argv) > 2 else 6
+    print(f"the machine kept {busy_processors():.1f} of {os.cpu_count()} processors busy")
+    measure_journals(seconds)
     for mebibytes in MEBIBYTES:
         audit(program, mebibytes)
 

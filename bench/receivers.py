@@ -9,8 +9,8 @@ word. CPU is that of all threads of the server, by /proc/PID/task/*/schedstat. P
 by the bytes that came, since a datagram that a tick sends off has less than seven; what is missing
 is read off the RTP numbers.
 
-PROGRAM is SATIP_PROGRAM or crates/satip/out/satip without the word; `cd crates/satip && rt run --
---version` builds it. Needs the Debian package ffmpeg."""
+PROGRAM is SATIP_PROGRAM or crates/satip/out/satip without the word, which `tools/program_alone.sh`
+builds. Needs the Debian package ffmpeg."""
 
 import os
 import subprocess

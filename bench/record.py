@@ -10,9 +10,9 @@ of the process (wait4) and its most memory (VmHWM), and how many packets were lo
 datagram that a line `gap FROM COUNT` or FFmpeg's `RTP: missed COUNT packets` tells. What they write
 goes to a file.
 
-PROGRAM is SATIP_PROGRAM or crates/satip/out/satip without the word; `cd crates/satip && rt run --
---version` builds it. Needs the Debian package ffmpeg. Without it the recording is random bytes in
-packets, and `satip record` is measured alone."""
+PROGRAM is SATIP_PROGRAM or crates/satip/out/satip without the word, which `tools/program_alone.sh`
+builds. Needs the Debian package ffmpeg. Without it the recording is random bytes in packets, and
+`satip record` is measured alone."""
 
 import os
 import random
@@ -30,7 +30,7 @@ TOP = os.path.dirname(os.path.dirname(os.path.abspath(__file__)))
 sys.path.insert(0, os.path.join(TOP, "trials"))
 sys.dont_write_bytecode = True
 from lib.rtp import PACKET, PACKETS_A_DATAGRAM
-from lib.server import QUERY, use_program
+from lib.server import QUERY, busy_processors, use_program
 
 ADDRESS = "127.0.0.1"
 BIT_RATE = 100_000_000
@@ -208,6 +208,7 @@ def main():
     program = use_program(sys.argv[1:2])
     count = int(sys.argv[2]) if len(sys.argv) > 2 else 1_000_000
     has_ffmpeg = shutil.which("ffmpeg") is not None
+    print(f"the machine kept {busy_processors():.1f} of {os.cpu_count()} processors busy")
     with tempfile.TemporaryDirectory() as folder:
         recording, output = os.path.join(folder, "a.ts"), os.path.join(folder, "out.ts")
         (make_recording if has_ffmpeg else make_noise)(recording, count)

@@ -3,9 +3,9 @@
 
     python3 bench/replay.py [PROGRAM [WORD..]]
 
-PROGRAM is SATIP_PROGRAM or crates/satip/out/satip without the word; `cd crates/satip && rt run --
---version` builds it. With words, only the rows with one of them in their names are measured. Needs
-the Debian package valgrind for the counts of instructions. Writes nothing into the repository."""
+PROGRAM is SATIP_PROGRAM or crates/satip/out/satip without the word, which `tools/program_alone.sh`
+builds. With words, only the rows with one of them in their names are measured. Needs the Debian
+package valgrind for the counts of instructions. Writes nothing into the repository."""
 
 import os
 import re
@@ -19,7 +19,7 @@ from functools import partial
 TOP = os.path.dirname(os.path.dirname(os.path.abspath(__file__)))
 sys.path.insert(0, os.path.join(TOP, "trials"))
 sys.dont_write_bytecode = True
-from lib.server import use_program
+from lib.server import busy_processors, use_program
 
 INPUT_LIMIT = 67108864
 RUNS = 5
@@ -341,6 +341,7 @@ def main():
         found = [row for name, row in rows(program, folder) if any(word in name for word in wanted)]
         if not found:
             sys.exit("no row has one of these words in its name")
+        print(f"the machine kept {busy_processors():.1f} of {os.cpu_count()} processors busy\n")
         print("| run | CPU | into a file | instructions each | memory at most |\n|---|---|---|---|---|", flush=True)
         for row in found:
             row()

@@ -1,18 +1,19 @@
 #!/usr/bin/env python3
-"""Measures `satip serve` on loopback, and plain loops that only send at the same pace: by sendto from
-one socket, and from a connected socket for each receiver. It counts the calls of the system by
-kind, too.
+"""Measures `satip serve` on loopback, and plain loops that only send at the same pace: by sendto
+from one socket, and from a connected socket for each receiver. It counts the calls of the system
+by kind, too.
 
     python3 bench/serve.py [PROGRAM [SECONDS]]
 
 CPU is that of all threads of the server, by /proc/PID/task/*/schedstat. Packets are counted by the
-bytes that came; what is late or missing is read off the RTP numbers. SECONDS, 20 without the word,
-is how long each row takes.
+bytes that came; what is late or missing is read off the RTP numbers. Server and loops send by turns
+in five rounds, and a row has the least of each. SECONDS, 6 without the word, is how long each of
+them sends. The first line says how many processors the machine kept busy before.
 
-PROGRAM is SATIP_PROGRAM or crates/satip/out/satip without the word; `cd crates/satip && rt run --
---version` builds it. Needs the right to trace it, and the Debian packages gcc, libc6-dev, strace and
-ffmpeg."""
+PROGRAM is SATIP_PROGRAM or crates/satip/out/satip without the word, which `tools/program_alone.sh`
+builds. Needs the right to trace it, and the Debian packages gcc, libc6-dev, strace and ffmpeg."""
 
+import collections
 import os
 import subprocess
 import sys
@@ -24,17 +25,24 @@ TOP = os.path.dirname(os.path.dirname(os.path.abspath(__file__)))
 sys.path.insert(0, os.path.join(TOP, "trials"))
 sys.dont_write_bytecode = True
 from lib.rtp import Receivers
-from lib.server import QUERY, Server, cpu_seconds, resident_megabytes, use_program
+from lib.server import (
+    QUERY,
+    Server,
+    busy_processors,
+    cpu_seconds,
+    resident_megabytes,
+    use_program,
+)
 
 ADDRESS = "127.0.0.1"
-RECEIVERS = (1, 16, 60)
+RECEIVERS, ROUNDS = (1, 16, 60), 5
 
 IDLE_SECONDS, CALLS_SECONDS = 5, 5
 # Clients that ask for OPTIONS side by side; one worker more serves the one that streams.
 ASKERS = 8
 
 
-def serve_to(count, server, seconds):
+def serve_to(count, server, seconds, counts_calls):
     """CPU seconds of the server for each packet that came, its receivers, and its memory."""
     receivers, client, pid = Receivers(ADDRESS, count), server.client(), server.process.pid
     target, sessions = client.play_to(receivers.ports(), QUERY)
@@ -42,7 +50,8 @@ def serve_to(count, server, seconds):
     receivers.read_for(seconds)
     used, packets = cpu_seconds(pid) - before, receivers.packets() - packets
     memory = resident_megabytes(pid)
-    print(f"{count} receivers: calls a second: {calls(pid, receivers.read_for)}")
+    if counts_calls:
+        print(f"{count} receivers: calls a second: {calls(pid, receivers.read_for)}")
     client.tear_down(target, *sessions)
     receivers.close()
     client.close()
@@ -87,15 +96,20 @@ def measure_idle(server):
 
 def measure_sending(server, loop, seconds):
     for count in RECEIVERS:
-        each, receivers, memory = serve_to(count, server, seconds)
-        one, connected = (loop_to(count, loop, kind, seconds) for kind in ("one", "connected"))
+        served, one, connected, told = [], [], [], collections.Counter()
+        for turn in range(ROUNDS):
+            each, receivers, memory = serve_to(count, server, seconds, turn == 0)
+            served.append(each)
+            one.append(loop_to(count, loop, "one", seconds))
+            connected.append(loop_to(count, loop, "connected", seconds))
+            told.update(datagrams=receivers.datagrams)
+            told.update(late=receivers.late, missing=receivers.missing)
+        least, floor, other = (1e6 * min(it) for it in (served, one, connected))
         print(
-            f"{count} receivers: {1e6 * each:.3f} s of CPU a million packets; "
-            f"a loop of sendto {1e6 * one:.3f} s; "
-            f"a loop over connected sockets {1e6 * connected:.3f} s; "
-            f"factors {each / one:.2f} and {each / connected:.2f}; "
-            f"datagrams {receivers.datagrams}, late {receivers.late}, missing {receivers.missing}; "
-            f"resident {memory:.1f} MB",
+            f"{count} receivers: factor {least / floor:.2f} ({least / other:.2f} over connected "
+            f"sockets): {least:.3f} s of CPU a million packets, a loop of sendto {floor:.3f} s, "
+            f"over connected sockets {other:.3f} s; datagrams {told['datagrams']}, "
+            f"late {told['late']}, missing {told['missing']}; resident {memory:.1f} MB",
             flush=True,
         )
 
@@ -129,7 +143,8 @@ def make_recording(folder, seconds):
 
 def main():
     use_program(sys.argv[1:2])
-    seconds = int(sys.argv[2]) if len(sys.argv) > 2 else 20
+    seconds = int(sys.argv[2]) if len(sys.argv) > 2 else 6
+    print(f"the machine kept {busy_processors():.1f} of {os.cpu_count()} processors busy")
     with tempfile.TemporaryDirectory() as folder:
         loop = os.path.join(folder, "sendto_loop")
         source = os.path.join(TOP, "bench", "sendto_loop.c")

@@ -1,16 +1,17 @@
 #!/usr/bin/env python3
-"""Measures `satip tunnel` on loopback to 1, 8 and 16 connections, and a plain loop that only
-sends the same frames at the same pace on the same number of TCP connections. Then one of eight stops reading,
-and what the others miss is counted.
+"""Measures `satip tunnel` on loopback to 1, 8 and 16 connections, and a plain loop that only sends
+the same frames at the same pace on the same number of TCP connections. Then one of eight stops
+reading, and what the others miss is counted.
 
     python3 bench/tunnel.py [PROGRAM [SECONDS]]
 
 CPU is that of all threads of the server, by /proc/PID/task/*/schedstat. Packets are counted by the
-bytes that came; what is missing is read off the RTP numbers. SECONDS, 6 without the word, is how
-long each row takes.
+bytes that came; what is missing is read off the RTP numbers. Server and loop send by turns in five
+rounds, and a row has the least of each. SECONDS, 6 without the word, is how long each of them
+sends. The first line says how many processors the machine kept busy before.
 
-PROGRAM is SATIP_PROGRAM or crates/satip/out/satip without the word; `cd crates/satip && rt run --
---version` builds it. Needs the Debian packages gcc and libc6-dev."""
+PROGRAM is SATIP_PROGRAM or crates/satip/out/satip without the word, which `tools/program_alone.sh`
+builds. Needs the Debian packages gcc and libc6-dev."""
 import os
 import select
 import socket
@@ -24,10 +25,18 @@ sys.path.insert(0, os.path.join(TOP, "trials"))
 sys.dont_write_bytecode = True
 from lib.rtp import PACKET, RTP_HEADER, number_of
 from lib.rtsp import inside
-from lib.server import QUERY, Server, cpu_seconds, free_ports, resident_megabytes, use_program
+from lib.server import (
+    QUERY,
+    Server,
+    busy_processors,
+    cpu_seconds,
+    free_ports,
+    resident_megabytes,
+    use_program,
+)
 
 ADDRESS = "127.0.0.1"
-CONNECTIONS = (1, 8, 16)
+CONNECTIONS, ROUNDS = (1, 8, 16), 5
 
 
 class Readers:
@@ -118,14 +127,35 @@ def measure_slow(server, seconds):
     readers.read_for(1)
     readers.leave_out(readers.clients[3])
     readers.read_for(2 * seconds)
-    print(f"8 connections, one of which stops reading: the other seven got {readers.payload // PACKET} "
-          f"packets and miss {readers.missing} datagrams; {readers.ended} of them ended")
+    print(
+        f"8 connections, one of which stops reading: the other seven got "
+        f"{readers.payload // PACKET} packets and miss {readers.missing} datagrams; "
+        f"{readers.ended} of them ended"
+    )
     readers.close()
+
+
+def measure_rounds(server, loop, count, seconds):
+    """The least of each of five rounds, in which the server and the loop send by turns."""
+    served, plain, missing = [], [], 0
+    for _ in range(ROUNDS):
+        each, readers = measure(server, count, seconds)
+        served.append(each)
+        missing += readers.missing
+        plain.append(loop_to(loop, count, seconds))
+    least, floor = 1e6 * min(served), 1e6 * min(plain)
+    memory = resident_megabytes(server.process.pid)
+    print(
+        f"{count:2} connections: factor {least / floor:.2f}: {least:.3f} s of CPU a million "
+        f"packets, a loop of send {floor:.3f} s; missing {missing}; {memory:.1f} MB",
+        flush=True,
+    )
 
 
 def main():
     use_program(sys.argv[1:2])
     seconds = int(sys.argv[2]) if len(sys.argv) > 2 else 6
+    print(f"the machine kept {busy_processors():.1f} of {os.cpu_count()} processors busy")
     with tempfile.TemporaryDirectory() as folder:
         loop = os.path.join(folder, "send_loop")
         source = os.path.join(TOP, "bench", "send_loop.c")
@@ -133,12 +163,7 @@ def main():
         server = Server(ADDRESS, workers=20, seconds=20 * seconds + 60, command="tunnel")
         try:
             for count in CONNECTIONS:
-                each, readers = measure(server, count, seconds)
-                plain = loop_to(loop, count, seconds)
-                memory = resident_megabytes(server.process.pid)
-                print(f"{count:2} connections: {1e6 * each:.3f} s of CPU a million packets, a loop of send "
-                      f"{1e6 * plain:.3f} s: factor {each / plain:.2f}; missing {readers.missing}; "
-                      f"{memory:.1f} MB", flush=True)
+                measure_rounds(server, loop, count, seconds)
             measure_slow(server, seconds)
         finally:
             server.close()

@@ -112,6 +112,20 @@ def cpu_seconds(pid):
     return spent / 1e9
 
 
+def busy_processors(seconds=2):
+    """How many processors the whole machine keeps busy, over these seconds."""
+
+    def spent():
+        with open("/proc/stat", encoding="ascii") as file:
+            ticks = [int(word) for word in file.readline().split()[1:9]]
+        # The fourth and fifth are those of no work.
+        return sum(ticks) - ticks[3] - ticks[4]
+
+    before = spent()
+    time.sleep(seconds)
+    return (spent() - before) / seconds / os.sysconf("SC_CLK_TCK")
+
+
 def resident_megabytes(pid):
     with open(f"/proc/{pid}/status", encoding="ascii") as file:
         return int(re.search(r"VmRSS:\s*(\d+)", file.read()).group(1)) / 1024
