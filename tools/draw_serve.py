@@ -7,8 +7,8 @@ It makes two recordings, a configuration by tools/new_config.py, starts the serv
 channels by tools/channels.py, and takes a stream by curl. Each line of the picture is one that a
 command wrote, but for the prompts and for the scratch folder's name, which is told as ~.
 
-Needs the Debian packages ffmpeg and curl, and crates/satip/out/satip (`cd crates/satip && rt run --
---version` builds it) or SATIP_PROGRAM. Ports from 18554 and 18875 on of 127.0.0.1 are to be free.
+Needs the Debian packages ffmpeg and curl, and crates/satip/out/satip (`tools/program_alone.sh` builds
+it) or SATIP_PROGRAM. Ports from 18554 and 18875 on of 127.0.0.1 are to be free.
 """
 
 import argparse

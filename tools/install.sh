@@ -5,8 +5,8 @@
 #
 # PREFIX is /usr/local without the word. A packager sets DESTDIR, which goes in front of every path
 # that is written and stands in none of the files. SATIP_PROGRAM names the program,
-# crates/satip/out/satip without it (`cd crates/satip && rt run -- --version` builds it). Nothing is
-# started, and /etc is left alone. Needs the Debian packages coreutils and sed alone.
+# crates/satip/out/satip without it (`tools/program_alone.sh` builds it). Nothing is started, and
+# /etc is left alone. Needs the Debian packages coreutils and sed alone.
 set -eu
 top=$(cd "$(dirname "$0")/.." && pwd)
 prefix=${1:-/usr/local}
@@ -19,7 +19,7 @@ case $prefix in
     ;;
 esac
 if [ ! -x "$program" ]; then
-    echo "$program isn't there: (cd crates/satip && rt run -- --version) builds it" >&2
+    echo "$program isn't there: tools/program_alone.sh builds it" >&2
     exit 1
 fi
 to=${DESTDIR:-}$prefix

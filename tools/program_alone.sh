@@ -1,18 +1,18 @@
 #!/usr/bin/env bash
-# Builds the program from the crates that it stands on alone, by the gate over a copy of them.
+# Proves and builds the program, crates/satip/out/satip, by the gate over a copy of the crates that it
+# stands on alone. What kit 13f proves so isn't proved again by `rt ci` at the top, and the other way.
 #
 #   tools/program_alone.sh [FOLDER]
 #
 # Copies into FOLDER, which is empty or not there, crates.txt with the line of crate satip and those
-# of the crates below it, these crates, and HANDLES. Leaves out the edits, and what is in files
-# *tests.rt. Then runs `rt ci` there: it proves each crate from nothing, as many side by side as there
-# are processors and memory, and builds and runs the program as two compilers make it. The crates of
-# tests and the edits are left to `rt ci` at the top. Without FOLDER it makes one in the folder of
-# temporary files, and leaves it there.
+# of the crates below it, these crates without their edits, and HANDLES. Runs `rt ci` there: it proves
+# each crate, as many side by side as there are processors and memory, and builds and runs the program
+# as two compilers make it. Copies the program, as LLVM built it, to crates/satip/out/satip. Without
+# FOLDER it works in a folder of temporary files, and removes it.
 #
-# Says at the end where the program is, and how long rt ci took. Ends with the status of rt ci, and
-# with 2 if FOLDER isn't empty. Needs the kit's rt in PATH, and the Debian packages bash, coreutils,
-# git, grep, and gawk or mawk.
+# Says at the end how long rt ci took. Ends with the status of rt ci, and with 2 if FOLDER isn't empty
+# or there is no program. Needs the kit's rt in PATH, and the Debian packages bash, coreutils, git, and
+# gawk or mawk.
 set -euo pipefail
 export LC_ALL=C
 top=$(cd "$(dirname "$0")/.." && pwd)
@@ -47,9 +47,9 @@ lines_below() {
     }' "$top/crates.txt"
 }
 
-# Copies a crate without what was built and without edits, and empties its files of tests.
+# Copies a crate without what was built and without edits.
 copy_crate() {
-  local from=$top/crates/$1 to=$2/crates/$1 part file
+  local from=$top/crates/$1 to=$2/crates/$1 part
   mkdir -p "$to"
   for part in "$from"/*; do
     case ${part##*/} in
@@ -57,35 +57,43 @@ copy_crate() {
       *) cp -R "$part" "$to/" ;;
     esac
   done
-  for file in "$to"/src/*tests.rt; do
-    if [[ -f $file ]] && grep -qF '#[test]' "$file"; then
-      printf '// The tests are left out of this copy.\n' >"$file"
-    fi
-  done
+}
+
+# Copies the crates to a folder, and runs the gate there.
+prove() {
+  local crate status=0 begun=$SECONDS
+  # rt ci wants crates.txt at the top of a repository, and the folder may be inside of another.
+  git init -q "$1"
+  cp "$top/HANDLES" "$1/"
+  lines_below satip >"$1/crates.txt"
+  [[ -s $1/crates.txt ]] || fail "crates.txt has no crate satip"
+  while read -r crate; do
+    copy_crate "$crate" "$1"
+  done < <(awk '{ sub(/[ :].*/, ""); print $1 }' "$1/crates.txt")
+  printf '%s crates in %s\n' "$(wc -l <"$1/crates.txt")" "$1"
+  (cd "$1" && rt ci) || status=$?
+  printf 'rt ci: status %s, %s s\n' "$status" "$((SECONDS - begun))"
+  return "$status"
 }
 
 main() {
   [[ $# -le 1 && ${1-} != -* ]] || fail "usage: tools/program_alone.sh [FOLDER]"
-  local folder crate status=0 begun=$SECONDS
-  folder=${1:-$(mktemp -d "${TMPDIR:-/tmp}/satip-program-XXXXXX")}
+  local folder=${1-} status=0 built
+  if [[ -z $folder ]]; then
+    folder=$(mktemp -d "${TMPDIR:-/tmp}/satip-program-XXXXXX")
+    # shellcheck disable=SC2064 # The folder is the one of now.
+    trap "rm -rf '$folder'" EXIT
+  fi
   mkdir -p "$folder"
   folder=$(cd "$folder" && pwd)
   [[ -z $(ls -A "$folder") ]] || fail "$folder isn't empty"
-  # rt ci wants crates.txt at the top of a repository, and FOLDER may be inside of another.
-  git init -q "$folder"
-  cp "$top/HANDLES" "$folder/"
-  lines_below satip >"$folder/crates.txt"
-  [[ -s $folder/crates.txt ]] || fail "crates.txt has no crate satip"
-  while read -r crate; do
-    copy_crate "$crate" "$folder"
-  done < <(awk '{ sub(/:.*/, ""); print $1 }' "$folder/crates.txt")
-  printf '%s crates in %s\n' "$(wc -l <"$folder/crates.txt")" "$folder"
-  (cd "$folder" && rt ci) || status=$?
-  printf 'rt ci: status %s, %s s\n' "$status" "$((SECONDS - begun))"
-  if [[ $status == 0 ]]; then
-    printf 'the program: %s\n' "$folder/crates/satip/out/satip"
-  fi
-  return "$status"
+  prove "$folder" || status=$?
+  [[ $status == 0 ]] || return "$status"
+  built=$folder/crates/satip/out/satip
+  [[ -x $built ]] || fail "rt ci left no program in $folder"
+  mkdir -p "$top/crates/satip/out"
+  cp "$built" "$top/crates/satip/out/"
+  printf 'the program: %s\n' "$top/crates/satip/out/satip"
 }
 
 main "$@"

@@ -4,8 +4,8 @@
 #   trials/stream_and_picture.sh [FOLDER]
 #
 # FOLDER gets a.ts (the recording), satip.toml, stream.ts and picture.png; without the word it is a
-# new one. Ends with status 1 if there is no picture. Needs crates/satip/out/satip (`cd crates/satip
-# && rt run -- --version` builds it) or SATIP_PROGRAM, and ports 18554 and 18875 of 127.0.0.1.
+# new one. Ends with status 1 if there is no picture. Needs crates/satip/out/satip, which
+# `tools/program_alone.sh` builds, or SATIP_PROGRAM, and ports 18554 and 18875 of 127.0.0.1.
 #
 # Packages: ffmpeg curl
 # Limit: 60 s
