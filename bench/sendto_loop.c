@@ -1,10 +1,11 @@
 // The plain loops that `satip serve` is compared with: the same datagrams at the same pace, and
 // nothing but the calls that send.
 //
-//   sendto_loop one|connected SECONDS PORT...
+//   sendto_loop one|connected SECONDS [PORT...]
 //
 // Every 20 ms it sends 64 transport packets to each port of 127.0.0.1, seven in a datagram, as a
 // front end plays: by sendto from one socket, or by send from a connected socket for each port.
+// Without a port it only pauses. Prints the packets that it sent, and the seconds of CPU.
 // Needs the Debian packages gcc and libc6-dev.
 #define _GNU_SOURCE
 #include <arpa/inet.h>
@@ -27,8 +28,8 @@ static int socket_to(const struct sockaddr_in *to) {
 }
 
 int main(int count, char **words) {
-    if (count < 4) {
-        fprintf(stderr, "usage: %s one|connected SECONDS PORT...\n", words[0]);
+    if (count < 3) {
+        fprintf(stderr, "usage: %s one|connected SECONDS [PORT...]\n", words[0]);
         return 2;
     }
     int connected = strcmp(words[1], "connected") == 0, receivers = count - 3, one = socket_to(NULL);
@@ -59,7 +60,7 @@ int main(int count, char **words) {
     }
     struct timespec used;
     clock_gettime(CLOCK_PROCESS_CPUTIME_ID, &used);
-    printf("packets %ld cpu %.3f\n", packets, used.tv_sec + used.tv_nsec / 1e9);
+    printf("packets %ld cpu %.6f\n", packets, used.tv_sec + used.tv_nsec / 1e9);
     free(own);
     free(to);
     return 0;

@@ -1,7 +1,7 @@
 #!/usr/bin/env python3
 """Measures `satip serve` on loopback, and plain loops that only send at the same pace: by sendto
-from one socket, and from a connected socket for each receiver. It counts the calls of the system
-by kind, too.
+from one socket, and from a connected socket for each receiver, and one that only pauses. It counts
+the calls of the system by kind, too.
 
     python3 bench/serve.py [PROGRAM [SECONDS]]
 
@@ -37,7 +37,7 @@ from lib.server import (
 ADDRESS = "127.0.0.1"
 RECEIVERS, ROUNDS = (1, 16, 60), 5
 
-IDLE_SECONDS, CALLS_SECONDS = 5, 5
+IDLE_SECONDS, CALLS_SECONDS, PAUSES_A_SECOND = 5, 5, 50
 # Clients that ask for OPTIONS side by side; one worker more serves the one that streams.
 ASKERS = 8
 
@@ -68,6 +68,16 @@ def loop_to(count, loop, kind, seconds):
         told = sends.stdout.read().split()
     receivers.close()
     return float(told[3]) / int(told[1])
+
+
+def measure_pauses(loop, seconds):
+    words = [loop, "one", str(seconds)]
+    least = min(
+        float(subprocess.run(words, check=True, capture_output=True, text=True).stdout.split()[3])
+        for _ in range(ROUNDS)
+    )
+    each = 1e6 * least / (seconds * PAUSES_A_SECOND)
+    print(f"a loop that only pauses: {each:.1f} microseconds of CPU a pause of 20 ms", flush=True)
 
 
 def calls(pid, wait):
@@ -152,6 +162,7 @@ def main():
         recording = make_recording(folder, 6 * seconds + 30)
         server = Server(ADDRESS, workers=ASKERS + 1, fronts=2, recording=recording)
         try:
+            measure_pauses(loop, seconds)
             measure_idle(server.process)
             measure_sending(server, loop, seconds)
             measure_requests(server, seconds)
