@@ -34,7 +34,7 @@ put() {
 
 put 755 "$program" bin/satip
 put 644 "$top/docs/satip.1" share/man/man1/satip.1
-for example in satip.toml session.script session.journal haproxy.cfg; do
-    put 644 "$top/examples/$example" "share/doc/satip/examples/$example"
+for example in "$top"/examples/*; do
+    case $example in *.service) ;; *) put 644 "$example" "share/doc/satip/examples/${example##*/}" ;; esac
 done
 put 644 "$unit" lib/systemd/system/satip.service

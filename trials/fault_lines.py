@@ -7,7 +7,7 @@ strace(1) makes system calls fail: the listener of one worker, reads of one reco
 one pump, accept4 and the opening of a recording when no descriptor is left, sends of a stream over
 HTTP when there is no memory, writes to standard error, and the start of threads. One recording is
 taken away. Each line has to come once, with its time, its cause and, if the table of
-docs/PROTOCOL.md has brackets, its advice; one that counts has to come again after a minute. Clients
+docs/USING.md has brackets, its advice; one that counts has to come again after a minute. Clients
 of the rest have to be served meanwhile. If the server ends, the line of its status is the last. If
 threads can't be started, it has to serve by those that it has. A shortage that passes ends no
 stream. A line that no process reads holds up its job alone.
@@ -111,12 +111,12 @@ def tracer_of(pid):
         return int(re.search(r"TracerPid:\s*(\d+)", file.read()).group(1))
 
 
-def threads_that(server, call, pattern):
-    """Returns the threads that make such a call, those that make it most often first."""
+def threads_that(server, call, pattern, length=2.5):
+    """Returns the threads that make such a call in some seconds, the most frequent callers first."""
     log = server.path("threads.log")
     words = ["strace", "-f", "-qq", "-yy", "-o", log, "-e", f"trace={call}"]
     with subprocess.Popen([*words, "-p", str(server.process.pid)]) as strace:
-        time.sleep(2.5)
+        time.sleep(length)
         strace.send_signal(signal.SIGINT)
     with open(log) as file:
         made = [line.split()[0] for line in file if re.search(pattern, line)]
@@ -134,8 +134,8 @@ def thread_count(server, wanted):
 
 
 def workers_of(server):
-    """Returns the threads that wait at both listeners."""
-    return threads_that(server, "poll", r"poll\(\[.*TCP:.*TCP:.*\], 2, ")
+    """Returns the threads that wait at both listeners. Each does so once in five seconds."""
+    return threads_that(server, "poll", r"poll\(\[.*TCP:.*TCP:.*\], 2, ", 6)
 
 
 def come_until(server, holds):
