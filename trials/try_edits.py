@@ -34,8 +34,9 @@ content, in another folder with --libraries; and the proved crate whose edits ar
 satip-edits-KIT in the folder of temporary files. A result NOT TRIED isn't kept. --anew takes no
 kept result. --table tries nothing, and prints and writes what is kept.
 
-The rows are written to docs/EDITS.md if no crate is named and neither --gate nor --outside is
-given, and to FILE by --page. --read only applies each edit, has `rattle fmt` read the result,
+If no crate is named and neither --gate nor --outside is given, the rows are written to
+docs/EDITS.md, and what later runs need of them to trials/edits/results.jsonl. So a run on another
+machine tries what changed since. --page writes the rows to FILE. --read only applies each edit, has `rattle fmt` read the result,
 compares the bodies, and proves nothing.
 
 It loads `rt` as a module, of whose functions it uses those that try edits; another kit may need
@@ -65,6 +66,7 @@ TOP = os.path.dirname(os.path.dirname(os.path.abspath(__file__)))
 CRATES = os.path.join(TOP, "crates")
 EDITS = os.path.join(TOP, "trials", "edits")
 PAGE = os.path.join(TOP, "docs", "EDITS.md")
+RESULTS = os.path.join(TOP, "trials", "edits", "results.jsonl")
 ONE_JOB = ["--jobs", "1"]
 FAILED, UNTRIED = "NOT REFUSED", "NOT TRIED"
 # The columns of a printed row, those of a line of the page, and the memory of a check over kept
@@ -198,6 +200,8 @@ def sums_of(crates):
 def kept_rows(file):
     """What a file says of edits, by what they were tried on. Its last line may be cut."""
     rows = {}
+    if not os.path.exists(file):
+        return rows
     with open(file, encoding="utf-8") as lines:
         for line in lines:
             with contextlib.suppress(ValueError, KeyError, TypeError):
@@ -212,7 +216,7 @@ class Results:
     def __init__(self, folder, kit):
         os.makedirs(folder, exist_ok=True)
         self.file, self.kit = f"{folder}/results.jsonl", kit
-        self.rows = kept_rows(self.file) if os.path.exists(self.file) else {}
+        self.rows = {**kept_rows(RESULTS), **kept_rows(self.file)}
         self.alone = threading.Lock()
 
     def name_of(self, edit, crate_sum):
@@ -225,11 +229,21 @@ class Results:
         found = self.rows.get(self.name_of(edit, crate_sum))
         return found and Row(edit.crate, edit.name, edit.gate, *found)
 
+    def json_of(self, edit, crate_sum, row):
+        return json.dumps({"on": self.name_of(edit, crate_sum), **row._asdict()})
+
     def keep(self, edit, crate_sum, row):
-        line = {"on": self.name_of(edit, crate_sum), **row._asdict()}
         with self.alone, open(self.file, "a", encoding="utf-8") as file:
             # A line that a stopped run cut stays alone.
-            file.write("\n" + json.dumps(line))
+            file.write("\n" + self.json_of(edit, crate_sum, row))
+
+    def save(self, run, edits):
+        """Writes what was tried of these edits to the file of the repository."""
+        tried = (it for crate in sorted(edits) for it in edits[crate])
+        rows = ((it, run.rows[it]) for it in tried if run.rows[it].mark != UNTRIED)
+        lines = [self.json_of(it, run.sums[it.crate], row) + "\n" for it, row in rows]
+        with open(RESULTS, "w", encoding="utf-8") as file:
+            file.writelines(lines)
 
 
 class Run:
@@ -600,6 +614,8 @@ def try_all(rt, edits, given):
         os.chdir(TOP)
     if given.page:
         write_page(given.page, rows, kit)
+    if given.page == PAGE:
+        results.save(run, edits)
     bad = [row for row in rows if row.mark in (FAILED, UNTRIED)]
     print(f"{len(rows) - len(bad)} refused, {len(bad)} not; {sum(bool(it.mark) for it in rows)} marked")
     return 1 if bad else 0
