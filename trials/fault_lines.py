@@ -134,7 +134,7 @@ def thread_count(server, wanted):
 
 
 def workers_of(server):
-    """Returns the threads that wait at both listeners. Each does so once in five seconds."""
+    """Returns the threads that wait at both listeners. Each does so at least once in five seconds."""
     return threads_that(server, "poll", r"poll\(\[.*TCP:.*TCP:.*\], 2, ", 6)
 
 
