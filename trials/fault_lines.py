@@ -112,7 +112,7 @@ def tracer_of(pid):
 
 
 def threads_that(server, call, pattern, length=2.5):
-    """Returns the threads that make such a call in some seconds, the most frequent callers first."""
+    """Returns the threads that make such a call in that time, those that make most first."""
     log = server.path("threads.log")
     words = ["strace", "-f", "-qq", "-yy", "-o", log, "-e", f"trace={call}"]
     with subprocess.Popen([*words, "-p", str(server.process.pid)]) as strace:
@@ -134,7 +134,7 @@ def thread_count(server, wanted):
 
 
 def workers_of(server):
-    """Returns the threads that wait at both listeners. Each does so at least once in five seconds."""
+    """Returns the threads that wait at both listeners."""
     return threads_that(server, "poll", r"poll\(\[.*TCP:.*TCP:.*\], 2, ", 6)
 
 

@@ -36,8 +36,10 @@ kept result. --table tries nothing, and prints and writes what is kept.
 
 If no crate is named and neither --gate nor --outside is given, the rows are written to
 docs/EDITS.md, and what later runs need of them to trials/edits/results.jsonl. So a run on another
-machine tries what changed since. --page writes the rows to FILE. --read only applies each edit, has `rattle fmt` read the result,
-compares the bodies, and proves nothing.
+machine tries what changed since. --page writes the rows to FILE.
+
+--read only applies each edit, has `rattle fmt` read the result, compares the bodies, and proves
+nothing.
 
 It loads `rt` as a module, of whose functions it uses those that try edits; another kit may need
 other names. It isn't executable, so that trials/run.py doesn't take it for a trial. Ends with
@@ -614,7 +616,7 @@ def try_all(rt, edits, given):
         os.chdir(TOP)
     if given.page:
         write_page(given.page, rows, kit)
-    if given.page == PAGE:
+    if given.is_whole:
         results.save(run, edits)
     bad = [row for row in rows if row.mark in (FAILED, UNTRIED)]
     print(f"{len(rows) - len(bad)} refused, {len(bad)} not; {sum(bool(it.mark) for it in rows)} marked")
@@ -685,8 +687,8 @@ def main():
         return read_all(rt, edits)
     if given.jobs:
         os.environ["RT_JOBS"] = str(given.jobs)
-    is_whole = not (given.crates or given.gate or given.outside)
-    given.page = os.path.abspath(given.page) if given.page else PAGE if is_whole else None
+    given.is_whole = not (given.crates or given.gate or given.outside)
+    given.page = os.path.abspath(given.page) if given.page else PAGE if given.is_whole else None
     try:
         return try_all(rt, edits, given)
     except KeyboardInterrupt:
