@@ -38,7 +38,7 @@ CommandEnds t d f s r e (Some Help) = (r.input ≡ s.input) × IsShown t.output 
 CommandEnds t d f s r e (Some Version) = (r.input ≡ s.input) × IsShown t.output s.output r.output version e.status
 
 -- the outcome of a service. If its jobs ran, they ran by the configuration of the desk's text, over one history. In a server it keeps four laws: of payload,
--- owners, busy replies and recordings. The server's entries in a tunnel's history keep the first three. A server with journals keeps all four. With status 0
+-- owners, busy replies and recordings. So do the server's entries in a tunnel's history, and a server with journals. With status 0
 -- and sinks that expose their bytes, its journals are judged `yes` in any order. With status 3 the line on the errors sink names the configuration's fault
 abbrev pub ServiceEnds : (t : Tells) → (d f : DeskView) → (s r : Streams) → EndedView → Option Serving → Type 0
 ServiceEnds t d f s r e None = Unit {0}

@@ -16,7 +16,7 @@ use std::time::Duration;
 use std::{io, thread};
 
 // The time for which doors wait for a connection, in milliseconds. One that comes ends the wait.
-const WAIT_MS: i32 = 500;
+const WAIT_MS: i32 = 5_000;
 
 // The time for which doors wait if a connection can't be accepted, in milliseconds.
 const SHORTAGE_MS: u64 = 50;
@@ -24,7 +24,7 @@ const SHORTAGE_MS: u64 = 50;
 // The most connections that one look drops because their clients have left.
 const LOOKS: u32 = 64;
 
-/// The doors of one worker. They wait up to 500 ms for the next connection at the RTSP listener or
+/// The doors of one worker. They wait up to 5 s for the next connection at the RTSP listener or
 /// at the HTTP listener, and are idle if none came. If the system has no room for one, they are
 /// idle after 50 ms. Only the faults of a listener itself count as theirs (EBADF, EINVAL and
 /// ENOTSOCK of accept(2)).
