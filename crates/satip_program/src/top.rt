@@ -15,7 +15,7 @@ ghost use Rattle.satip_tunnel_serve.specs.Serve.CommandEnds.{Serves, serve_tells
 ghost use Rattle.satip_tunnel_serve.specs.Serve.CommandRan.{EndsAtLimit};
 ghost use Rattle.satip_tunnel_serve.specs.Ends.{Tunnels, tunnel_left, tunnel_tells};
 ghost use Rattle.satip_tunnel_serve.specs.Silences.{no_outbox};
-ghost use Rattle.satip_program.specs.Commands.{Serve, Journal, asked_of, asked_offline, command_of, serving_of, config_named, recording_in};
+ghost use Rattle.satip_program.specs.Commands.{Serve, Tunnel, Journal, asked_of, asked_offline, command_of, serving_of, config_named, recording_in};
 ghost use Rattle.satip_program.specs.Ended.{ended_alone, ended_recording, ended_view};
 ghost use Rattle.satip_program.specs.Journaling.{IsOfJournal};
 ghost use Rattle.satip_program.specs.Runs.{IsShown, RunEnds};
@@ -174,6 +174,11 @@ pub fn satip<R: Threads + Wait + Sync, K: Desk, I: Source, O: Sink, E: Sink>(
         → IfSome result.last (λ last. EndsAtLimit K.Doors.by_limit
         (jobs_view K.Doors.hall K.Outlet.outbox K.Store.shelf K.Clock.dial last.jobs).workers
         (status_of_jobs result.status)) }
+    ensures tunnel_at_limit { (name : List ℕ) (accepts : ℕ)
+        → serving_of words.now ≡ Some (Tunnel name accepts)
+        → IfSome result.tunnel (λ last. EndsAtLimit K.Doors.by_limit
+        (jobs_view K.Doors.hall no_outbox K.Store.shelf K.Clock.dial last.jobs).workers
+        result.status) }
 {
     match read_service(words) {
         Some(Service::Serve { name, accepts }) => {
@@ -309,6 +314,9 @@ fn run_tunnel<R: Threads + Wait + Sync, K: Desk, E: Sink>(
         (jobs_view K.Doors.hall K.Outlet.outbox K.Store.shelf K.Clock.dial)
         (jobs_view K.Doors.hall no_outbox K.Store.shelf K.Clock.dial)
         result.config result.tunnel result.unused result.status) }
+    ensures at_limit { IfSome result.tunnel (λ last. EndsAtLimit K.Doors.by_limit
+        (jobs_view K.Doors.hall no_outbox K.Store.shelf K.Clock.dial last.jobs).workers
+        result.status) }
     ensures handed { (K.desk desk.new).handed ≡ (K.desk desk.old).handed }
     ensures journaled { (K.desk desk.new).journaled ≡ (K.desk desk.old).journaled }
     ensures no_client { (result.wire ≡ None) × (result.inlet ≡ None) × (result.moment ≡ None) }

@@ -330,15 +330,15 @@ all_asked tells full drawn from to (r ∷ rs) es served a b t peer draw request 
 
 -- ---- all callers
 
-workers_ask : (tells full : Type 0) (accepts from : ℕ) (workers : List WorkerView) (rows : List TunnelRow)
-    → Along (TunnelWorkerDone tells full accepts) from workers rows → Each (λ (r : TunnelRow). AskedWithin r.own) rows
-workers_ask tells full accepts from [] [] along = tt
-workers_ask tells full accepts from [] (r ∷ rs) along = absurd along
-workers_ask tells full accepts from (w ∷ ws) [] along = absurd along
-workers_ask tells full accepts from (w ∷ ws) (r ∷ rs) along =
+workers_ask : (tells full cut : Type 0) (accepts from : ℕ) (workers : List WorkerView) (rows : List TunnelRow)
+    → Along (TunnelWorkerDone tells full cut accepts) from workers rows → Each (λ (r : TunnelRow). AskedWithin r.own) rows
+workers_ask tells full cut accepts from [] [] along = tt
+workers_ask tells full cut accepts from [] (r ∷ rs) along = absurd along
+workers_ask tells full cut accepts from (w ∷ ws) [] along = absurd along
+workers_ask tells full cut accepts from (w ∷ ws) (r ∷ rs) along =
     let done = along.0 in (
       all_asked tells full (draw_at w.key from) 0 done.draws done.connections r.own done.served,
-      workers_ask tells full accepts (from + 1) ws rs along.1,
+      workers_ask tells full cut accepts (from + 1) ws rs along.1,
     )
 
 pumps_ask : (full : Type 0) (from : ℕ) (pumps : List PumpView) (rows : List TunnelRow) → Along (TunnelPumpDone full) from pumps rows
@@ -372,17 +372,17 @@ row_asks h (r ∷ rs) n own asks has =
     (λ (later : Has n (numbers_of rs)). row_asks h rs n own.1 asks.1 later) has
 
 -- each request of a run was asked on a lane
-pub run_asks : (conn_tells : Type 0) (c : Setting) (accepts : ℕ) (pass : ShownPass) (jobs : JobsView) → TunnelServeRun conn_tells c accepts pass jobs
+pub run_asks : (conn_tells cut : Type 0) (c : Setting) (accepts : ℕ) (pass : ShownPass) (jobs : JobsView) → TunnelServeRun conn_tells cut c accepts pass jobs
     → AskedWithin pass.seen
-run_asks conn_tells c accepts pass jobs run a b t peer draw request answer whole asks =
+run_asks conn_tells cut c accepts pass jobs run a b t peer draw request answer whole asks =
     let seen : List TunnelItem = pass.seen in
     let n : ℕ = t.caller in
     let Asks : TunnelRow → Type 0 = λ r. AskedWithin r.own in
     let ticked = run.ticked.done in
     let all : Each Asks ((run.of_workers ++ run.of_pumps) ++ run.of_ticker ∷ []) =
     Each-append Asks (run.of_workers ++ run.of_pumps) (run.of_ticker ∷ [])
-    (Each-append Asks run.of_workers run.of_pumps (workers_ask conn_tells (IsFull seen) accepts 1 jobs.workers run.of_workers run.worked)
-    (pumps_ask (IsFull seen) 1 jobs.pumps run.of_pumps run.pumped))
+    (Each-append Asks run.of_workers run.of_pumps (workers_ask conn_tells (IsFull seen) cut accepts 1 jobs.workers run.of_workers run.worked)
+    (pumps_ask cut 1 jobs.pumps run.of_pumps run.pumped))
     (none_within run.of_ticker.own (tick_none (inners run.of_ticker.own) ticked.moments ticked.events), tt) in
     let of_rows : Each Asks pass.kept = subst (λ (rs : List TunnelRow). Each Asks rs) (sym run.callers) all in
     let own : own_of n seen ≡ own_of n a ++ t ∷ own_of n b =
@@ -390,7 +390,7 @@ run_asks conn_tells c accepts pass jobs run a b t peer draw request answer whole
     ∙ ap (λ (es : List TunnelItem). own_of n a ++ es) (own_of-cons_same n t b refl) in
     let has : Has t seen = subst (λ (xs : List TunnelItem). Has t xs) (sym whole) (Has-append_right t a (t ∷ b) (inl refl)) in
     let within : AskedWithin (own_of n seen) =
-    ⊎_elim (λ (zero : n ≡ 0). subst (λ (k : ℕ). AskedWithin (own_of k seen)) (sym zero) (stop_asks (IsFull seen) seen run.of_workers run.stopped))
+    ⊎_elim (λ (zero : n ≡ 0). subst (λ (k : ℕ). AskedWithin (own_of k seen)) (sym zero) (stop_asks cut seen run.of_workers run.stopped))
     (λ (later : Has n (numbers_of pass.kept)). row_asks seen pass.kept n run.entries of_rows later)
     (each_at (λ (u : TunnelItem). Has u.caller (0 ∷ numbers_of pass.kept)) seen t run.covered has) in
     let asked = within (own_of n a) (own_of n b) t peer draw request answer own asks in

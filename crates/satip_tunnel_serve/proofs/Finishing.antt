@@ -16,14 +16,16 @@ use Rattle.satip_worker.specs.Drawing.{draw_at}
 use Rattle.satip_worker.specs.Ends.{is_unmade}
 use Rattle.satip_worker.specs.WorkerRun.{WorkerEnds}
 use Rattle.satip_jobs.specs.declared.end.ServeEnd.{ServeEnd}
+use Rattle.satip_jobs.specs.declared.end.ServeEnd.TheVariants.{HistoryFull}
 use Rattle.satip_serve.specs.Deeds.{job_state}
 use Rattle.satip_serve.specs.Done.{EndsInTime}
+use Rattle.satip_serve.specs.Ends.{end_of_worker}
 use Rattle.satip_desk.specs.Fresh.{FreshPump, ReadOnce}
 use Rattle.satip_desk.specs.Views.{WorkerView, PumpView, TickView}
 use Rattle.satip_serve.proofs.Finishing.{not_zero, pump_done, ticker_done}
 use Rattle.satip_tunnel.specs.WorkerRun.{ServesAll}
 use Rattle.satip_tunnel.proofs.FullLemmas.{all_also}
-use Rattle.satip_tunnel_serve.specs.Deeds.{TunnelWorkerDid, TunnelPumpDid, TunnelTickerDid}
+use Rattle.satip_tunnel_serve.specs.Deeds.{DoorsTell, TunnelWorkerDid, TunnelPumpDid, TunnelTickerDid}
 use Rattle.satip_tunnel_serve.specs.Done.{TunnelWorkerDone, TunnelPumpDone, TunnelTickerDone}
 
 made_in_time : (full : Type 0) (r : Return) → is_unmade r.end ≡ false → EndsInTime full r
@@ -43,12 +45,12 @@ all_made : (full : Type 0) (returns : List Return) → Each (λ r. is_unmade r.e
 all_made full returns made = each_follows (λ (r : Return). is_unmade r.end ≡ false) (EndsInTime full) (made_in_time full) returns made
 
 worker_ended : (full : Type 0) (end : WorkerEnd) (accepts : ℕ) (told : Bool) (hall : Hall) (l : Known) (returns : List Return)
-    → WorkerEnds end (fresh_hall accepts told) hall false l returns → (l.length ≡ 18446744073709551615 → full) → EndedInTime full hall returns
+    → WorkerEnds end (fresh_hall accepts told) hall false l returns → (end ≡ Spent → l.length ≡ 18446744073709551615 → full) → EndedInTime full hall returns
 worker_ended full Closed accepts told hall l returns ends fills = record { ended = inl ends.ended; in_time = all_made full returns ends.made }
 worker_ended full DoorsFault accepts told hall l returns ends fills =
     record { ended = inr (inl (not_zero hall.faults ends.faults)); in_time = all_made full returns ends.made }
 worker_ended full Spent accepts told hall l returns ends fills =
-    let then = fills ends.full in
+    let then = fills (λ i. Spent) ends.full in
     let last = ends.last in
     let all : Each (EndsInTime full) (last.before ++ last.last ∷ []) =
     Each-append (EndsInTime full) last.before (last.last ∷ []) (all_made full last.before last.made) (spent_in_time full last.last last.end_is then, tt) in
@@ -56,17 +58,19 @@ worker_ended full Spent accepts told hall l returns ends fills =
 worker_ended full Want accepts told hall l returns ends fills = absurd (false≢true ends.may)
 
 -- a worker with fresh doors
-pub worker_done : (conn_tells full : Type 0) (accepts number caller : ℕ) (told : Bool) (o n : WorkerView) (s t : Seat) (end : ServeEnd)
-    → TunnelWorkerDid conn_tells number o s n t end → o.hall ≡ fresh_hall accepts told → s.pass.own ≡ []
-    → (length t.pass.seen ≡ 18446744073709551615 → full) → TunnelWorkerDone conn_tells full accepts number n (row caller t.pass.own)
-worker_done conn_tells full accepts number caller told o n s t end did hall none fills =
+pub worker_done : (tells : DoorsTell) (full cut : Type 0) (accepts number caller : ℕ) (told : Bool) (o n : WorkerView) (s t : Seat) (end : ServeEnd)
+    → TunnelWorkerDid tells number o s n t end → o.hall ≡ fresh_hall accepts told → s.pass.own ≡ []
+    → (length t.pass.seen ≡ 18446744073709551615 → full) → (end ≡ HistoryFull → length t.pass.seen ≡ 18446744073709551615 → cut)
+    → TunnelWorkerDone tells.conn full cut accepts number n (row caller t.pass.own)
+worker_done tells full cut accepts number caller told o n s t end did hall none fills cuts =
     let run = did.serves in
     let own : run.entries ≡ t.pass.own = sym (run.grows.own ∙ ap (λ (es : List TunnelItem). es ++ run.entries) none) in
-    let ends = worker_ended full did.ended accepts told n.hall (known_by t.pass) run.returns
-    (subst (λ (h : Hall). WorkerEnds did.ended h n.hall false (known_by t.pass) run.returns) hall run.ends) fills in
-    let served : ServesAll conn_tells full (draw_at n.key number) 0 run.draws run.returns run.entries =
-    subst (λ (key : List ℕ). ServesAll conn_tells full (draw_at key number) 0 run.draws run.returns run.entries) (sym did.key)
-    (all_also (SeesFull t) full fills conn_tells (draw_at o.key number) 0 run.draws run.returns run.entries run.serves) in
+    let ends = worker_ended cut did.ended accepts told n.hall (known_by t.pass) run.returns
+    (subst (λ (h : Hall). WorkerEnds did.ended h n.hall false (known_by t.pass) run.returns) hall run.ends)
+    (λ spent. cuts (did.end_is ∙ ap end_of_worker spent)) in
+    let served : ServesAll tells.conn full (draw_at n.key number) 0 run.draws run.returns run.entries =
+    subst (λ (key : List ℕ). ServesAll tells.conn full (draw_at key number) 0 run.draws run.returns run.entries) (sym did.key)
+    (all_also (SeesFull t) full fills tells.conn (draw_at o.key number) 0 run.draws run.returns run.entries run.serves) in
     record {
       limit = run.limit ∙ ap (λ (h : Hall). h.limit) hall;
       ended = ends.ended;
@@ -74,27 +78,27 @@ worker_done conn_tells full accepts number caller told o n s t end did hall none
       draws = run.draws;
       came = λ still. run.moved.given still ∙ ap (λ (h : Hall). h.given ++ map (λ (r : Return). record { kind = r.kind; peer = r.peer }) run.returns) hall;
       handed_back = λ still. run.moved.returned still ∙ ap (λ (h : Hall). h.returned ++ run.returns) hall;
-      served = subst (λ (es : List TunnelItem). ServesAll conn_tells full (draw_at n.key number) 0 run.draws run.returns es) own served;
+      served = subst (λ (es : List TunnelItem). ServesAll tells.conn full (draw_at n.key number) 0 run.draws run.returns es) own served;
       in_time = ends.in_time;
     }
 
 -- a pump with a fresh store
-pub tunnel_pump_done : (full : Type 0) (number caller : ℕ) (o n : PumpView) (s t : Seat) (end : ServeEnd)
-    → TunnelPumpDid number o s n t end → FreshPump o → s.pass.own ≡ [] → (length t.pass.seen ≡ 18446744073709551615 → full)
-    → TunnelPumpDone full number n (row caller t.pass.own)
-tunnel_pump_done full number caller o n s t end did fresh none fills = record {
-  done = pump_done ⊥ full number caller (job_state o (known_by s.pass)) (job_state n (known_by t.pass)) end did.pumped fresh
-      (ap (λ (es : List TunnelItem). inners es) none) (λ is. fills);
+pub tunnel_pump_done : (cut : Type 0) (number caller : ℕ) (o n : PumpView) (s t : Seat) (end : ServeEnd)
+    → TunnelPumpDid number o s n t end → FreshPump o → s.pass.own ≡ [] → (end ≡ HistoryFull → length t.pass.seen ≡ 18446744073709551615 → cut)
+    → TunnelPumpDone cut number n (row caller t.pass.own)
+tunnel_pump_done cut number caller o n s t end did fresh none cuts = record {
+  done = pump_done ⊥ cut number caller (job_state o (known_by s.pass)) (job_state n (known_by t.pass)) end did.pumped fresh
+      (ap (λ (es : List TunnelItem). inners es) none) cuts;
   none = did.others ∙ ap (λ (es : List TunnelItem). outers es) none;
 }
 
 -- the ticker with a clock that was read once
-pub tunnel_ticker_done : (full : Type 0) (start caller : ℕ) (o n : TickView) (s t : Seat) (end : ServeEnd)
+pub tunnel_ticker_done : (cut : Type 0) (start caller : ℕ) (o n : TickView) (s t : Seat) (end : ServeEnd)
     → TunnelTickerDid o s n t end → ReadOnce start o → s.pass.own ≡ []
-    → (length t.pass.seen ≡ 18446744073709551615 → full)
-    → TunnelTickerDone full start n (row caller t.pass.own)
-tunnel_ticker_done full start caller o n s t end did fresh none fills = record {
-  done = ticker_done ⊥ full start caller (job_state o (known_by s.pass)) (job_state n (known_by t.pass)) end did.ticked fresh
-      (ap (λ (es : List TunnelItem). inners es) none) (λ is. fills);
+    → (end ≡ HistoryFull → length t.pass.seen ≡ 18446744073709551615 → cut)
+    → TunnelTickerDone cut start n (row caller t.pass.own)
+tunnel_ticker_done cut start caller o n s t end did fresh none cuts = record {
+  done = ticker_done ⊥ cut start caller (job_state o (known_by s.pass)) (job_state n (known_by t.pass)) end did.ticked fresh
+      (ap (λ (es : List TunnelItem). inners es) none) cuts;
   none = did.others ∙ ap (λ (es : List TunnelItem). outers es) none;
 }

@@ -208,30 +208,30 @@ inner_owns : (h : List TunnelItem) (rows : List TunnelRow) → Each (λ (r : Tun
 inner_owns h [] own = tt
 inner_owns h (r ∷ rs) own = (own_inners r.number h ∙ ap (λ (es : List TunnelItem). inners es) own.0, inner_owns h rs own.1)
 
-workers_give : (conn_tells full : Type 0) (accepts front number from : ℕ) (workers : List WorkerView) (rows : List TunnelRow)
-    → Along (TunnelWorkerDone conn_tells full accepts) from workers rows → Each (GivesAs front number) (map inner_row rows)
-workers_give tells full accepts front number from [] [] along = tt
-workers_give tells full accepts front number from [] (r ∷ rs) along = absurd along
-workers_give tells full accepts front number from (w ∷ ws) [] along = absurd along
-workers_give tells full accepts front number from (w ∷ ws) (r ∷ rs) along =
+workers_give : (conn_tells full cut : Type 0) (accepts front number from : ℕ) (workers : List WorkerView) (rows : List TunnelRow)
+    → Along (TunnelWorkerDone conn_tells full cut accepts) from workers rows → Each (GivesAs front number) (map inner_row rows)
+workers_give tells full cut accepts front number from [] [] along = tt
+workers_give tells full cut accepts front number from [] (r ∷ rs) along = absurd along
+workers_give tells full cut accepts front number from (w ∷ ws) [] along = absurd along
+workers_give tells full cut accepts front number from (w ∷ ws) (r ∷ rs) along =
     let done = along.0 in (
       quiet_gives front number (inner_row r) (all_quiet tells full (draw_at w.key from) 0 done.draws done.connections r.own done.served),
-      workers_give tells full accepts front number (from + 1) ws rs along.1,
+      workers_give tells full cut accepts front number (from + 1) ws rs along.1,
     )
 
-inner_pumps : (full : Type 0) (from : ℕ) (pumps : List PumpView) (rows : List TunnelRow) → Along (TunnelPumpDone full) from pumps rows
-    → Along (PumpDone ⊥ full) from pumps (map inner_row rows)
-inner_pumps full from [] [] along = tt
-inner_pumps full from [] (r ∷ rs) along = absurd along
-inner_pumps full from (p ∷ ps) [] along = absurd along
-inner_pumps full from (p ∷ ps) (r ∷ rs) along = (along.0.done, inner_pumps full (from + 1) ps rs along.1)
+inner_pumps : (cut : Type 0) (from : ℕ) (pumps : List PumpView) (rows : List TunnelRow) → Along (TunnelPumpDone cut) from pumps rows
+    → Along (PumpDone ⊥ cut) from pumps (map inner_row rows)
+inner_pumps cut from [] [] along = tt
+inner_pumps cut from [] (r ∷ rs) along = absurd along
+inner_pumps cut from (p ∷ ps) [] along = absurd along
+inner_pumps cut from (p ∷ ps) (r ∷ rs) along = (along.0.done, inner_pumps cut (from + 1) ps rs along.1)
 
-pub tunnel_plays : (conn_tells : Type 0) (c : Setting) (accepts : ℕ) (pass : ShownPass) (jobs : JobsView) → TunnelServeRun conn_tells c accepts pass jobs
+pub tunnel_plays : (conn_tells cut : Type 0) (c : Setting) (accepts : ℕ) (pass : ShownPass) (jobs : JobsView)
+    → TunnelServeRun conn_tells cut c accepts pass jobs
     → GivesRecordings c (inners pass.seen) → PlaysRecordings c (inners pass.seen) jobs.pumps
-tunnel_plays conn_tells c accepts pass jobs run gives =
+tunnel_plays conn_tells cut c accepts pass jobs run gives =
     let seen : List TunnelItem = pass.seen in
     let kept : List TunnelRow = pass.kept in
-    let full : Type 0 = IsFull seen in
     let h : List Item = inners seen in
     let ws : List Caller = map inner_row run.of_workers in
     let ps : List Caller = map inner_row run.of_pumps in
@@ -244,15 +244,15 @@ tunnel_plays conn_tells c accepts pass jobs run gives =
     subst (λ (ns : List ℕ). Each (λ (e : Item). Has e.caller (0 ∷ ns)) h) (sym (inner_numbers kept))
     (covered_inners (λ n. Has n (0 ∷ numbers_of kept)) seen run.covered) in
     let ticked = run.ticked.done in
-    let pumped : Along (PumpDone ⊥ full) 1 jobs.pumps ps = inner_pumps full 1 jobs.pumps run.of_pumps run.pumped in
+    let pumped : Along (PumpDone ⊥ cut) 1 jobs.pumps ps = inner_pumps cut 1 jobs.pumps run.of_pumps run.pumped in
     let owner : (front number : ℕ) → HasAt front number 1 ps → PacketsAreOf number front h = λ front number at.
-    packets_are_of front number h (map inner_row kept) (caller_0_quiet full seen run.of_workers run.stopped) own covered
+    packets_are_of front number h (map inner_row kept) (caller_0_quiet cut seen run.of_workers run.stopped) own covered
     (subst (Each (GivesAs front number)) (sym rows)
     (Each-append (GivesAs front number) (ws ++ ps) (last ∷ [])
-    (Each-append (GivesAs front number) ws ps (workers_give conn_tells full accepts front number 1 jobs.workers run.of_workers run.worked)
-    (pumps_give ⊥ full front number 1 jobs.pumps ps pumped at))
+    (Each-append (GivesAs front number) ws ps (workers_give conn_tells (IsFull seen) cut accepts front number 1 jobs.workers run.of_workers run.worked)
+    (pumps_give ⊥ cut front number 1 jobs.pumps ps pumped at))
     (quiet_gives front number last (ticks_quiet last.own ticked.moments ticked.events), tt))) in
     let own_pumps : Each (λ (r : Caller). own_of r.number h ≡ r.own) ps =
     Each-append_right (λ (r : Caller). own_of r.number h ≡ r.own) ws ps
     (Each-append_left (λ (r : Caller). own_of r.number h ≡ r.own) (ws ++ ps) (last ∷ []) (subst (Each (λ (r : Caller). own_of r.number h ≡ r.own)) rows own)) in
-    each_plays c h ⊥ full ps gives owner [] 1 jobs.pumps ps refl (omega arith) own_pumps pumped
+    each_plays c h ⊥ cut ps gives owner [] 1 jobs.pumps ps refl (omega arith) own_pumps pumped

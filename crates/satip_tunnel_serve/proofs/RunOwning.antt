@@ -27,7 +27,7 @@ use Rattle.satip_tunnel.specs.ConnRun.{HttpServed, MatchKind, RtspServed}
 use Rattle.satip_tunnel.specs.WorkerRun.{ServesAll}
 use Rattle.satip_tunnel.proofs.FullLemmas.{run_also}
 use Rattle.satip_tunnel_serve.specs.Done.{TunnelRow, TunnelWorkerDone, TunnelPumpDone}
-use Rattle.satip_tunnel_serve.specs.TunnelRuns.{IsTunnelStop}
+use Rattle.satip_tunnel_serve.specs.TunnelRuns.{IsTunnelStop, TunnelEndsFull}
 use Rattle.satip_tunnel_serve.specs.Runs.{ConnectionsHaveLanes, JobsDrainOwn}
 use Rattle.satip_tunnel_serve.specs.Sent.{EachSendsFrames, SendsFrames, TunnelWorkerSent, owns_of}
 use Rattle.satip_tunnel_laws.proofs.Connecting.{drains_both}
@@ -78,15 +78,15 @@ served_own law parts_law tells full drawn from to rs entries served =
 
 -- the callers of all jobs
 
-workers_own : RunsDrainOwn → PartsDrainOwn → (tells full : Type 0) (accepts from : ℕ) (workers : List WorkerView) (rows : List TunnelRow)
-    → Along (TunnelWorkerDone tells full accepts) from workers rows → Each (λ r. DrainsOwn r.own) rows
-workers_own law parts tells full accepts from [] [] along = tt
-workers_own law parts tells full accepts from [] (r ∷ rs) along = absurd along
-workers_own law parts tells full accepts from (w ∷ ws) [] along = absurd along
-workers_own law parts tells full accepts from (w ∷ ws) (r ∷ rs) along =
+workers_own : RunsDrainOwn → PartsDrainOwn → (tells full cut : Type 0) (accepts from : ℕ) (workers : List WorkerView) (rows : List TunnelRow)
+    → Along (TunnelWorkerDone tells full cut accepts) from workers rows → Each (λ r. DrainsOwn r.own) rows
+workers_own law parts tells full cut accepts from [] [] along = tt
+workers_own law parts tells full cut accepts from [] (r ∷ rs) along = absurd along
+workers_own law parts tells full cut accepts from (w ∷ ws) [] along = absurd along
+workers_own law parts tells full cut accepts from (w ∷ ws) (r ∷ rs) along =
     let done = along.0 in (
       served_own law parts tells full (draw_at w.key from) 0 done.draws done.connections r.own done.served,
-      workers_own law parts tells full accepts (from + 1) ws rs along.1,
+      workers_own law parts tells full cut accepts (from + 1) ws rs along.1,
     )
 
 pumps_own : (full : Type 0) (from : ℕ) (pumps : List PumpView) (rows : List TunnelRow) → Along (TunnelPumpDone full) from pumps rows
@@ -112,11 +112,11 @@ by_number seen [] are own = tt
 by_number seen (r ∷ rs) are own = (subst (λ (es : List TunnelItem). DrainsOwn es) (sym are.0) own.0, by_number seen rs are.1 own.1)
 
 pub jobs_drain_own : PartsDrainOwn → RunsDrainOwn → (conn_tells : Type 0) → JobsDrainOwn conn_tells
-jobs_drain_own parts law conn_tells c accepts pass jobs run =
+jobs_drain_own parts law conn_tells status c accepts pass jobs run =
     let Own : TunnelRow → Type 0 = λ r. DrainsOwn r.own in
     let all : Each Own ((run.of_workers ++ run.of_pumps) ++ run.of_ticker ∷ []) =
     Each-append Own (run.of_workers ++ run.of_pumps) (run.of_ticker ∷ [])
-    (Each-append Own run.of_workers run.of_pumps (workers_own law parts conn_tells _ accepts 1 jobs.workers run.of_workers run.worked)
+    (Each-append Own run.of_workers run.of_pumps (workers_own law parts conn_tells _ _ accepts 1 jobs.workers run.of_workers run.worked)
     (pumps_own _ 1 jobs.pumps run.of_pumps run.pumped))
     (inner_own [] run.of_ticker.own run.ticked.none, tt) in
     record {
@@ -161,30 +161,30 @@ module _ (law : RunsDrainOwn) (parts_law : PartsDrainOwn) (wires : WiresHaveLane
             (drains_both before served.own [] before_own own),
       )
 
-workers_sent : RunsDrainOwn → PartsDrainOwn → WiresHaveLanes → WiresSplitOneWay → (tells : Type 0) (c : Setting) (h : List TunnelItem) (numbers : List ℕ)
+workers_sent : RunsDrainOwn → PartsDrainOwn → WiresHaveLanes → WiresSplitOneWay → (tells cut : Type 0) (c : Setting) (h : List TunnelItem) (numbers : List ℕ)
     → TunnelLegal c h → CallersDrainOwn numbers h → (accepts from : ℕ) (workers : List WorkerView) (rows : List TunnelRow)
-    → Each (λ r. own_of r.number h ≡ r.own) rows → Along (TunnelWorkerDone tells (IsFull h) accepts) from workers rows
-    → Along (TunnelWorkerSent tells h accepts) from workers rows
-workers_sent law parts wires splits tells c h numbers legal callers accepts from [] [] own along = tt
-workers_sent law parts wires splits tells c h numbers legal callers accepts from [] (r ∷ rs) own along = absurd along
-workers_sent law parts wires splits tells c h numbers legal callers accepts from (w ∷ ws) [] own along = absurd along
-workers_sent law parts wires splits tells c h numbers legal callers accepts from (w ∷ ws) (r ∷ rs) own along =
+    → Each (λ r. own_of r.number h ≡ r.own) rows → Along (TunnelWorkerDone tells (IsFull h) cut accepts) from workers rows
+    → Along (TunnelWorkerSent tells cut h accepts) from workers rows
+workers_sent law parts wires splits tells cut c h numbers legal callers accepts from [] [] own along = tt
+workers_sent law parts wires splits tells cut c h numbers legal callers accepts from [] (r ∷ rs) own along = absurd along
+workers_sent law parts wires splits tells cut c h numbers legal callers accepts from (w ∷ ws) [] own along = absurd along
+workers_sent law parts wires splits tells cut c h numbers legal callers accepts from (w ∷ ws) (r ∷ rs) own along =
     let done = along.0 in (
       record {
         done = done;
         frames = each_sends law parts wires splits tells (IsFull h) c h numbers legal callers r.number (draw_at w.key from) 0 done.draws [] done.connections r.own
             done.served own.0 tt;
       },
-      workers_sent law parts wires splits tells c h numbers legal callers accepts (from + 1) ws rs own.1 along.1,
+      workers_sent law parts wires splits tells cut c h numbers legal callers accepts (from + 1) ws rs own.1 along.1,
     )
 
 pub connections_have_lanes : PartsDrainOwn → RunsDrainOwn → (conn_tells : Type 0) → JobsDrainOwn conn_tells → WiresHaveLanes → WiresSplitOneWay
     → ConnectionsHaveLanes conn_tells
-connections_have_lanes parts law conn_tells owns wires splits c accepts pass jobs run =
+connections_have_lanes parts law conn_tells owns wires splits status c accepts pass jobs run =
     let Own : TunnelRow → Type 0 = λ r. own_of r.number pass.seen ≡ r.own in
     let all : Each Own ((run.of_workers ++ run.of_pumps) ++ run.of_ticker ∷ []) =
     subst (λ (rs : List TunnelRow). Each Own rs) run.callers run.entries in
     let own : Each Own run.of_workers =
     Each-append_left Own run.of_workers run.of_pumps (Each-append_left Own (run.of_workers ++ run.of_pumps) (run.of_ticker ∷ []) all) in
-    workers_sent law parts wires splits conn_tells c pass.seen (0 ∷ numbers_of pass.kept) run.lawful (owns c accepts pass jobs run) accepts 1 jobs.workers
+    workers_sent law parts wires splits conn_tells (TunnelEndsFull status pass.seen) c pass.seen (0 ∷ numbers_of pass.kept) run.lawful (owns status c accepts pass jobs run) accepts 1 jobs.workers
     run.of_workers own run.worked

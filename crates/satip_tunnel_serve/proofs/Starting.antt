@@ -7,13 +7,14 @@ use Rattle.satip_jobs.specs.declared.end.ServeEnd.{ServeEnd}
 use Rattle.satip_desk.specs.Fresh.{AreFresh, FreshJobs}
 use Rattle.satip_desk.specs.Views.{WorkerView, PumpView, JobsView}
 use Rattle.satip_serve.proofs.Starting.{fresh_at}
+use Rattle.satip_tunnel_serve.specs.Deeds.{DoorsTell}
 use Rattle.satip_tunnel_serve.specs.Ran.{TunnelJobsRan}
 
-pub from_start : (conn_tells : Type 0) (c : Setting) (start : ℕ) (given now : JobsView) (pass : ShownPass) (left : JobsView) (end : ServeEnd)
+pub from_start : (tells : DoorsTell) (c : Setting) (start : ℕ) (given now : JobsView) (pass : ShownPass) (left : JobsView) (end : ServeEnd)
     → c.start ≡ start → now.workers ≡ given.workers → now.pumps ≡ given.pumps → Reads given.ticker.dial now.ticker.dial start
-    → now.ticker.outbox ≡ given.ticker.outbox → TunnelJobsRan conn_tells (FreshJobs c.start) c now pass left end
-    → TunnelJobsRan conn_tells AreFresh c given pass left end
-from_start conn_tells c start given now pass left end is workers pumps reads outbox ran =
+    → now.ticker.outbox ≡ given.ticker.outbox → TunnelJobsRan tells (FreshJobs c.start) c now pass left end
+    → TunnelJobsRan tells AreFresh c given pass left end
+from_start tells c start given now pass left end is workers pumps reads outbox ran =
     let at_start : Reads given.ticker.dial now.ticker.dial c.start = subst (λ (s : ℕ). Reads given.ticker.dial now.ticker.dial s) (sym is) reads in
     record {
       number = ran.number;
@@ -24,4 +25,5 @@ from_start conn_tells c start given now pass left end is workers pumps reads out
       };
       run = λ accepts fresh. ran.run accepts (fresh_at c.start accepts given now workers pumps at_start outbox fresh);
       ended = λ accepts fresh. ran.ended accepts (fresh_at c.start accepts given now workers pumps at_start outbox fresh);
+      at_limit = ran.at_limit;
     }

@@ -1,13 +1,16 @@
 -- What all jobs of a tunnel did is a run of it.
-use Rattle.std.proofs.Common.{◌≡◌, ◌≢◌, ℕ, true, List, map, sym, ap, ◌∙◌, subst, length}
+use Rattle.std.proofs.Common.{◌≡◌, ◌≢◌, ℕ, true, List, [], ◌∷◌, map, sym, ap, ◌∙◌, subst, length}
 use Rattle.std.proofs.lemmas.List.{length-map}
 use Rattle.satip_base.specs.Lists.{Each}
+use Rattle.satip_base.proofs.Elements.{each_follows}
 use Rattle.satip_plain.specs.declared.setting.Setting.{Setting}
 use Rattle.satip_turn.specs.Shown.{Cell, Knows}
+use Rattle.satip_world.specs.Halls.{IsAtLimit}
 use Rattle.satip_interleave.specs.Histories.{TunnelItem, TunnelLegal}
 use Rattle.satip_interleave.specs.Calling.{ShownPass}
 use Rattle.satip_tunnel.specs.Seats.{seated, Seat as CallerSeat}
 use Rattle.satip_jobs.specs.declared.end.ServeEnd.{ServeEnd}
+use Rattle.satip_jobs.specs.declared.end.ServeEnd.TheVariants.{HistoryFull}
 use Rattle.satip_jobs.specs.declared.posts.Posts.{Posts}
 use Rattle.satip_jobs.specs.declared.seat.Seat.{Seat}
 use Rattle.satip_jobs.specs.Crewed.{RunDid}
@@ -16,12 +19,15 @@ use Rattle.satip_jobs.specs.Runs.{HasOne, MatchEnd}
 use Rattle.satip_jobs.proofs.Ended.{end_over}
 use Rattle.satip_jobs.proofs.WholeRuns.{run_by}
 use Rattle.satip_desk.specs.Fresh.{FreshWorker, FreshPump, FreshJobs, ReadOnce}
+use Rattle.satip_serve.specs.Ran.{AreAtLimit}
 use Rattle.satip_serve.specs.Services.{IsFirst}
+use Rattle.satip_serve.specs.Servings.{end_of_run}
+use Rattle.satip_serve.specs.Statuses.{serving_status}
 use Rattle.satip_desk.specs.Views.{WorkerView, PumpView, TickView}
 use Rattle.satip_serve.proofs.WholeRuns.{each_map, map_twice}
-use Rattle.satip_tunnel_serve.specs.Deeds.{SeatDid, TunnelWorkerDid, TunnelPumpDid, TunnelTickerDid}
-use Rattle.satip_tunnel_serve.specs.TunnelRuns.{IsTunnelStop, TunnelEndTells, TunnelServeRun, tunnel_terms}
-use Rattle.satip_tunnel_serve.proofs.Ended.{one_worker_tells, one_pump_tells, one_ticker_tells}
+use Rattle.satip_tunnel_serve.specs.Deeds.{DoorsTell, SeatDid, TunnelWorkerDid, TunnelPumpDid, TunnelTickerDid}
+use Rattle.satip_tunnel_serve.specs.TunnelRuns.{IsTunnelStop, TunnelEndTells, TunnelEndsFull, TunnelServeRun, tunnel_terms}
+use Rattle.satip_tunnel_serve.proofs.Ended.{one_worker_tells, one_worker_limit, one_pump_tells, one_ticker_tells}
 use Rattle.satip_tunnel_serve.proofs.Finishing.{worker_done, tunnel_pump_done, tunnel_ticker_done}
 
 -- kits of which a part is seen to be the same are as many
@@ -29,9 +35,13 @@ pub as_many : {K V U : Type 0} (see : K → V) (part : V → U) (xs ys : List K)
 as_many {U = U} see part xs ys same =
     sym (length-map xs see) ∙ sym (length-map (map see xs) part) ∙ ap (λ (us : List U). length us) same ∙ length-map (map see ys) part ∙ length-map ys see
 
+any_of : {S : Type 0} (xs : List S) → Each (λ x. Unit {0}) xs
+any_of [] = tt
+any_of (x ∷ xs) = (tt, any_of xs)
+
 -- what each kind of job did, as a relation of kits
-abbrev pub works : {W : Type 0} → (conn_tells : Type 0) → (W → WorkerView) → ℕ → W → CallerSeat → W → CallerSeat → ServeEnd → Type 0
-works conn_tells worker_of n o s m t e = TunnelWorkerDid conn_tells n (worker_of o) s (worker_of m) t e
+abbrev pub works : {W : Type 0} → (tells : DoorsTell) → (W → WorkerView) → ℕ → W → CallerSeat → W → CallerSeat → ServeEnd → Type 0
+works tells worker_of n o s m t e = TunnelWorkerDid tells n (worker_of o) s (worker_of m) t e
 
 abbrev pub pumps_so : {P : Type 0} → (P → PumpView) → ℕ → P → CallerSeat → P → CallerSeat → ServeEnd → Type 0
 pumps_so pump_of n o s m t e = TunnelPumpDid n (pump_of o) s (pump_of m) t e
@@ -41,9 +51,9 @@ ticks tick_of n o s m t e = TunnelTickerDid (tick_of o) s (tick_of m) t e
 
 module _ {X G W L P M T N : Type 0} (cell : X → Cell Setting) (pass : X → ShownPass) (gear : X → G)
     (legal : Setting → List TunnelItem → Type 0) (is_stop : TunnelItem → Type 0) (goes_on : X → X → Type 0)
-    (conn_tells : Type 0) (worker_of : W → WorkerView) (pump_of : P → PumpView) (tick_of : T → TickView) (o : X) (before : Posts W P T G) (n : X)
+    (tells : DoorsTell) (worker_of : W → WorkerView) (pump_of : P → PumpView) (tick_of : T → TickView) (o : X) (before : Posts W P T G) (n : X)
     (after : Posts W P T G) (end : ServeEnd)
-    (run : RunDid cell pass gear legal is_stop goes_on {L = L} {M = M} {N = N} (SeatDid cell pass (works conn_tells worker_of))
+    (run : RunDid cell pass gear legal is_stop goes_on {L = L} {M = M} {N = N} (SeatDid cell pass (works tells worker_of))
     (SeatDid cell pass (pumps_so pump_of)) (SeatDid cell pass (ticks tick_of)) o before n after end) where
   -- the caller at a seat
   abbrev at : {K S : Type 0} → Seat X K S → CallerSeat
@@ -76,31 +86,33 @@ module _ {X G W L P M T N : Type 0} (cell : X → Cell Setting) (pass : X → Sh
       → FreshJobs (cell o).setting.start accepts
       (record { workers = map worker_of before.workers.items; pumps = map pump_of before.pumps.items; ticker = tick_of before.ticker })
       → length before.workers.items ≡ (cell o).setting.config.workers → length before.pumps.items ≡ length (cell o).setting.config.fronts
-      → TunnelServeRun conn_tells (cell o).setting accepts (pass n)
+      → TunnelServeRun tells.conn (TunnelEndsFull (serving_status (end_of_run end)) (pass n).seen) (cell o).setting accepts (pass n)
       (record { workers = map worker_of after.workers.items; pumps = map pump_of after.pumps.items; ticker = tick_of after.ticker })
   tunnel_run stops lawful accepts first knows fresh worker_count pump_count =
       let c : Setting = (cell o).setting in
       let full : Type 0 = IsFull (pass n).seen in
-      let worked = works conn_tells worker_of in
+      let cut : Type 0 = TunnelEndsFull (serving_status (end_of_run end)) (pass n).seen in
+      let cuts : end ≡ HistoryFull → full → cut = λ is whole. (ap (λ (e : ServeEnd). serving_status (end_of_run e)) is, whole) in
+      let worked = works tells worker_of in
       let pumped = pumps_so pump_of in
       let ticked = ticks tick_of in
       let R : List WorkerView → List PumpView → TickView → Type 0 = λ ws ps t.
-      TunnelServeRun conn_tells c accepts (pass n) (record { workers = ws; pumps = ps; ticker = t }) in
+      TunnelServeRun tells.conn cut c accepts (pass n) (record { workers = ws; pumps = ps; ticker = t }) in
       let whole : R (map (λ (s : Seat X W L). worker_of s.kit) run.front.ended) (map (λ (s : Seat X P M). pump_of s.kit) run.second_ended)
       (tick_of run.third_ended.kit) =
       run_by cell pass gear legal is_stop goes_on (SeatDid cell pass worked) (SeatDid cell pass pumped) (SeatDid cell pass ticked) o before n after end run
       (λ (s : Seat X W L). worker_of s.kit) (λ (s : Seat X P M). pump_of s.kit) (λ (s : Seat X T N). tick_of s.kit)
       (λ (s : Seat X W L). FreshWorker accepts (worker_of s.kit)) (λ (s : Seat X P M). FreshPump (pump_of s.kit))
       (λ (s : Seat X T N). ReadOnce c.start (tick_of s.kit))
-      (tunnel_terms conn_tells full c accepts) lawful stops (λ is whole. whole)
-      (λ (x y : Seat X W L) did kit none filled ends. worker_done conn_tells full accepts x.number (pass y.caller).number kit.told (worker_of x.kit)
-      (worker_of y.kit)
-      (at x) (at y) y.end did.deed kit.hall none filled)
-      (λ (x y : Seat X P M) did kit none filled ends. tunnel_pump_done full x.number (pass y.caller).number (pump_of x.kit) (pump_of y.kit) (at x) (at y) y.end
-      did.deed kit none filled)
-      (λ (x y : Seat X T N) did kit none filled ends. tunnel_ticker_done full c.start (pass y.caller).number (tick_of x.kit) (tick_of y.kit)
+      (tunnel_terms tells.conn full cut c accepts) lawful stops cuts
+      (λ (x y : Seat X W L) did kit none filled ends. worker_done tells full cut accepts x.number (pass y.caller).number kit.told
+      (worker_of x.kit) (worker_of y.kit)
+      (at x) (at y) y.end did.deed kit.hall none filled (λ is length. cuts (ends is) (filled length)))
+      (λ (x y : Seat X P M) did kit none filled ends. tunnel_pump_done cut x.number (pass y.caller).number (pump_of x.kit) (pump_of y.kit) (at x) (at y) y.end
+      did.deed kit none (λ is length. cuts (ends is) (filled length)))
+      (λ (x y : Seat X T N) did kit none filled ends. tunnel_ticker_done cut c.start (pass y.caller).number (tick_of x.kit) (tick_of y.kit)
       (at x) (at y) y.end
-      did.deed kit none filled)
+      did.deed kit none (λ is length. cuts (ends is) (filled length)))
       (λ (x y : Seat X W L) did. did.still) (λ (x y : Seat X P M) did. did.still) (λ (x y : Seat X T N) did. did.still)
       first.number first.own first.kept first.made knows (workers_fresh accepts fresh.workers_are) (pumps_fresh fresh.pumps_are) (ticker_fresh fresh.ticker_is)
       worker_count pump_count in
@@ -108,22 +120,41 @@ module _ {X G W L P M T N : Type 0} (cell : X → Cell Setting) (pass : X → Sh
       (subst (λ (ps : List PumpView). R (map worker_of after.workers.items) ps (tick_of run.third_ended.kit)) pumps_seen
       (subst (λ (ws : List WorkerView). R ws (map (λ (s : Seat X P M). pump_of s.kit) run.second_ended) (tick_of run.third_ended.kit)) workers_seen whole))
 
+  -- a fact of each worker, or of one, by the end of all
+  by_end : (good bad : WorkerView → Type 0) (fresh : Seat X W L → Type 0)
+      → ((x y : Seat X W L) → SeatDid cell pass (works tells worker_of) x y → fresh x
+      → (length (pass y.caller).seen ≡ 18446744073709551615 → IsFull (pass n).seen)
+      → MatchEnd y.end (good (worker_of y.kit)) (bad (worker_of y.kit)) (IsFull (pass n).seen))
+      → Knows (legal (cell o).setting) (pass n) → Each fresh run.first
+      → MatchEnd end (Each good (map worker_of after.workers.items)) (HasOne bad (map worker_of after.workers.items)) (IsFull (pass n).seen)
+  by_end good bad fresh says knows are =
+      let full : Type 0 = IsFull (pass n).seen in
+      let whole : MatchEnd end (Each good (map (λ (s : Seat X W L). worker_of s.kit) run.front.ended))
+      (HasOne bad (map (λ (s : Seat X W L). worker_of s.kit) run.front.ended)) full =
+      end_over cell pass gear legal is_stop goes_on (SeatDid cell pass (works tells worker_of)) (SeatDid cell pass (pumps_so pump_of))
+      (SeatDid cell pass (ticks tick_of)) o before n after end run
+      (λ (s : Seat X W L). worker_of s.kit) good bad fresh says
+      (λ (x y : Seat X P M) did filled. one_pump_tells full x.number (pump_of x.kit) (pump_of y.kit) (at x) (at y) y.end did.deed filled)
+      (λ (x y : Seat X T N) did filled. one_ticker_tells full (tick_of x.kit) (tick_of y.kit) (at x) (at y) y.end did.deed filled)
+      knows are in
+      subst (λ (ws : List WorkerView). MatchEnd end (Each good ws) (HasOne bad ws) full) workers_seen whole
+
   pub end_tells : (accepts : ℕ) → Knows (legal (cell o).setting) (pass n) → Each (FreshWorker accepts) (map worker_of before.workers.items)
       → TunnelEndTells end (pass n).seen (map worker_of after.workers.items)
   end_tells accepts knows fresh =
-      let full : Type 0 = IsFull (pass n).seen in
-      let worked = works conn_tells worker_of in
-      let pumped = pumps_so pump_of in
-      let ticked = ticks tick_of in
-      let good : WorkerView → Type 0 = λ w. w.hall.ended ≡ true in
-      let bad : WorkerView → Type 0 = λ w. w.hall.faults ≢ 0 in
-      let whole : MatchEnd end (Each good (map (λ (s : Seat X W L). worker_of s.kit) run.front.ended))
-      (HasOne bad (map (λ (s : Seat X W L). worker_of s.kit) run.front.ended)) full =
-      end_over cell pass gear legal is_stop goes_on (SeatDid cell pass worked) (SeatDid cell pass pumped) (SeatDid cell pass ticked) o before n after end run
-      (λ (s : Seat X W L). worker_of s.kit) good bad (λ (s : Seat X W L). FreshWorker accepts (worker_of s.kit))
-      (λ (x y : Seat X W L) did kit filled. one_worker_tells conn_tells full accepts x.number (worker_of x.kit) (worker_of y.kit) (at x) (at y) y.end
+      by_end (λ w. w.hall.ended ≡ true) (λ w. w.hall.faults ≢ 0) (λ s. FreshWorker accepts (worker_of s.kit))
+      (λ (x y : Seat X W L) did kit filled. one_worker_tells tells (IsFull (pass n).seen) accepts x.number (worker_of x.kit) (worker_of y.kit) (at x) (at y) y.end
       did.deed kit filled)
-      (λ (x y : Seat X P M) did filled. one_pump_tells full x.number (pump_of x.kit) (pump_of y.kit) (at x) (at y) y.end did.deed filled)
-      (λ (x y : Seat X T N) did filled. one_ticker_tells full (tick_of x.kit) (tick_of y.kit) (at x) (at y) y.end did.deed filled)
-      knows (workers_fresh accepts fresh) in
-      subst (λ (ws : List WorkerView). MatchEnd end (Each good ws) (HasOne bad ws) full) workers_seen whole
+      knows (workers_fresh accepts fresh)
+
+  pub at_limits : Knows (legal (cell o).setting) (pass n) → AreAtLimit tells.by_limit end (map worker_of after.workers.items)
+  at_limits knows served limited =
+      let workers : List WorkerView = map worker_of after.workers.items in
+      let good : WorkerView → Type 0 = λ w. tells.by_limit → IsAtLimit w.hall in
+      let all : Each good workers =
+      subst (λ (e : ServeEnd). MatchEnd e (Each good workers) (HasOne (λ (w : WorkerView). Unit {0}) workers) (IsFull (pass n).seen)) served
+      (by_end good (λ w. Unit {0}) (λ s. Unit {0})
+      (λ (x y : Seat X W L) did kit filled. one_worker_limit tells (IsFull (pass n).seen) x.number (worker_of x.kit) (worker_of y.kit) (at x) (at y) y.end
+      did.deed filled)
+      knows (any_of run.first)) in
+      each_follows good (λ (w : WorkerView). IsAtLimit w.hall) (λ (w : WorkerView) limit. limit limited) workers all

@@ -16,7 +16,7 @@ use Rattle.satip_serve.specs.CommandRan.{JobsEnd}
 use Rattle.satip_interleave.specs.Calling.{ShownPass}
 use Rattle.satip_interleave.specs.Histories.{TunnelLegal, inners}
 use Rattle.satip_tunnel_serve.specs.declared.all_jobs.TunnelLast.{TunnelLast}
-use Rattle.satip_tunnel_serve.specs.TunnelRuns.{TunnelServeRun}
+use Rattle.satip_tunnel_serve.specs.TunnelRuns.{TunnelEndsFull, TunnelServeRun}
 use Rattle.satip_tunnel_serve.specs.Outlets.{OutletsStay}
 use Rattle.satip_tunnel_serve.specs.Sent.{SendsPayloads, TunnelWorkerSent}
 
@@ -37,15 +37,15 @@ pub record TunnelServingRun (conn_tells : Type 0) (accepts : ℕ) (given : JobsV
   pub number : l.pass.number ≡ 0
   pub knows : Knows (TunnelLegal l.server.setting) l.pass
   pub joined : l.pass.made ≡ numbers_of l.pass.kept
-  -- the jobs ran over one history of the tunnel, whose entries of the server keep the laws
-  pub run : TunnelServeRun conn_tells l.server.setting accepts l.pass l.silent
+  -- the jobs ran over one history of the tunnel, whose entries of the server keep the laws. With any other status than 9 no job ended because it is full
+  pub run : TunnelServeRun conn_tells (TunnelEndsFull status l.pass.seen) l.server.setting accepts l.pass l.silent
   pub payload : SendsSelected l.server.setting (inners l.pass.seen)
   pub owners : ObeysOwners l.server.setting (inners l.pass.seen)
   pub busy : TellsBusy l.server.setting (inners l.pass.seen)
   pub recordings : PlaysRecordings l.server.setting (inners l.pass.seen) l.silent.pumps
   -- each connection that was given a lane was sent rewritten replies and the first frames of the lane. If one session alone has its channels on a lane, the
   -- frames there carry its payload
-  pub frames : Along (TunnelWorkerSent conn_tells l.pass.seen accepts) 1 l.silent.workers run.of_workers
+  pub frames : Along (TunnelWorkerSent conn_tells (TunnelEndsFull status l.pass.seen) l.pass.seen accepts) 1 l.silent.workers run.of_workers
   pub channels : SendsPayloads l.server.setting l.pass.seen
   -- the workers' keys, the pumps' recordings and what the outlets show are those of the given kits, in order
   pub kits_left : ComeBack given l.jobs

@@ -38,8 +38,8 @@ EachSendsFrames h caller before (r ∷ rs) (own ∷ owns) =
     MatchKind r.kind (SendsFrames h before own caller) (Unit {0}) × EachSendsFrames h caller (before ++ own) rs owns
 
 -- a worker is done. Each connection that it handed back was sent its wire, or a prefix of it if a send failed, and the frames in the wire are those of its lane
-pub record TunnelWorkerSent (conn_tells : Type 0) (h : List TunnelItem) (accepts number : ℕ) (worker : WorkerView) (caller : TunnelRow) : Type 0 where
-  pub done : TunnelWorkerDone conn_tells (IsFull h) accepts number worker caller
+pub record TunnelWorkerSent (conn_tells cut : Type 0) (h : List TunnelItem) (accepts number : ℕ) (worker : WorkerView) (caller : TunnelRow) : Type 0 where
+  pub done : TunnelWorkerDone conn_tells (IsFull h) cut accepts number worker caller
   pub frames : EachSendsFrames h caller.number [] done.connections
       (owns_of conn_tells (IsFull h) (draw_at worker.key number) 0 done.draws done.connections caller.own done.served)
 

@@ -18,22 +18,26 @@ use Rattle.satip_tunnel_serve.specs.Done.{TunnelWorkerDone, TunnelPumpDone, Tunn
 abbrev pub IsTunnelStop : TunnelItem → Type 0
 IsTunnelStop t = t.event ≡ Inner Stop
 
--- the terms of a tunnel's run; `full` says that the history is full
-abbrev pub tunnel_terms : (conn_tells full : Type 0) (c : Setting) (accepts : ℕ) → Terms TunnelEvent TunnelAnswer WorkerView PumpView TickView
-tunnel_terms conn_tells full c accepts = record {
+-- the status says that the history is full, and it is; a full history counts the entries of the server and of the lanes
+abbrev pub TunnelEndsFull : (status : ℕ) → List TunnelItem → Type 0
+TunnelEndsFull status h = (status ≡ 9) × IsFull h
+
+-- the terms of a tunnel's run. `full` says that the history is full, and `cut` that its end is why jobs ended
+abbrev pub tunnel_terms : (conn_tells full cut : Type 0) (c : Setting) (accepts : ℕ) → Terms TunnelEvent TunnelAnswer WorkerView PumpView TickView
+tunnel_terms conn_tells full cut c accepts = record {
   legal = λ d h. TunnelLegal d h;
   is_stop = λ t. IsTunnelStop t;
-  full = full;
-  worked = λ number worker caller. TunnelWorkerDone conn_tells full accepts number worker caller;
-  pumped = λ number pump caller. TunnelPumpDone full number pump caller;
-  ticked = λ ticker caller. TunnelTickerDone full c.start ticker caller;
+  full = cut;
+  worked = λ number worker caller. TunnelWorkerDone conn_tells full cut accepts number worker caller;
+  pumped = λ number pump caller. TunnelPumpDone cut number pump caller;
+  ticked = λ ticker caller. TunnelTickerDone cut c.start ticker caller;
 }
 
 -- all jobs ran over one history of the tunnel, which is legal in the setting and which `pass` has seen. Each entry, of the server or of the lanes, has the
--- number of a job's caller or is the one stop; a full history counts both kinds
-abbrev pub TunnelServeRun : (conn_tells : Type 0) (c : Setting) (accepts : ℕ) (pass : ShownPass) → JobsView → Type 0
-TunnelServeRun conn_tells c accepts pass jobs =
-    Run c (tunnel_terms conn_tells (IsFull pass.seen) c accepts) pass (record { workers = jobs.workers; pumps = jobs.pumps; ticker = jobs.ticker })
+-- number of a job's caller or is the one stop. If `cut` doesn't hold, no job ended because the history is full, and the stop was executed
+abbrev pub TunnelServeRun : (conn_tells cut : Type 0) (c : Setting) (accepts : ℕ) (pass : ShownPass) → JobsView → Type 0
+TunnelServeRun conn_tells cut c accepts pass jobs =
+    Run c (tunnel_terms conn_tells (IsFull pass.seen) cut c accepts) pass (record { workers = jobs.workers; pumps = jobs.pumps; ticker = jobs.ticker })
 
 -- all doors ended, those of one worker failed, or the history is full
 abbrev pub TunnelEndTells : ServeEnd → List TunnelItem → List WorkerView → Type 0

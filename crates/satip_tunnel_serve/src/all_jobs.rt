@@ -8,7 +8,7 @@ ghost use Rattle.satip_serve.specs.Ran.{CanRun};
 ghost use Rattle.satip_serve.specs.Spaces.{IsSpaceFor};
 ghost use Rattle.satip_interleave.specs.Histories.{TunnelLegal};
 ghost use Rattle.satip_tunnel.specs.Seats.{seated};
-ghost use Rattle.satip_tunnel_serve.specs.Deeds.{WorkedAtSeat};
+ghost use Rattle.satip_tunnel_serve.specs.Deeds.{WorkedAtSeat, doors_tell};
 ghost use Rattle.satip_tunnel_serve.specs.Ran.{HaveOutlets, HaveTunneled};
 ghost use Rattle.satip_tunnel_serve.specs.Views.{worker_seen, jobs_seen};
 
@@ -65,7 +65,8 @@ fn run_silent<
     requires pump_space { IsSpaceFor (length jobs.pumps.items) gears.pumps.items
         space.pump_rooms.items space.pumps.items (vec_capacity space.pumps) }
     requires few { length jobs.pumps.items ≤ 16 }
-    ensures ran { HaveTunneled D.Conn.tells (FreshJobs server.now.setting.start) server.now
+    ensures ran { HaveTunneled (doors_tell D.Conn.tells D.by_limit)
+        (FreshJobs server.now.setting.start) server.now
         (jobs_seen D.hall M.shelf C.dial jobs) result.0
         (jobs_seen D.hall M.shelf C.dial result.1) result.2 }
     ensures worker_count { length result.1.workers.items ≡ length jobs.workers.items }
@@ -87,7 +88,8 @@ fn run_silent<
         space,
         &|seat: &mut Seat<TunnelCaller<R>, WorkerKit<D, Silent, P>, WorkerRoom>|
             requires { IsSync R.row }
-            ensures { WorkedAtSeat D.Conn.tells seat.old.number seat.new.number
+            ensures { WorkedAtSeat (doors_tell D.Conn.tells D.by_limit)
+                seat.old.number seat.new.number
                 (worker_seen D.hall seat.old.kit)
                 (seated seat.old.caller.server.now seat.old.caller.pass)
                 (worker_seen D.hall seat.new.kit)
@@ -117,8 +119,8 @@ fn serve_all<R: Threads + Wait + Sync, K: Devices>(
 ) -> Result<(TunnelPass, Jobs<K>, ServeEnd), Jobs<K>>
     requires ready { CanRun TunnelLegal server.now pass jobs }
     requires few { length jobs.pumps.items ≤ 16 }
-    ensures ran { IfOk result (λ served. HaveTunneled K.Doors.Conn.tells
-        (FreshJobs server.now.setting.start) server.now
+    ensures ran { IfOk result (λ served. HaveTunneled
+        (doors_tell K.Doors.Conn.tells K.Doors.by_limit) (FreshJobs server.now.setting.start) server.now
         (jobs_seen K.Doors.hall K.Store.shelf K.Clock.dial jobs) served.0
         (jobs_seen K.Doors.hall K.Store.shelf K.Clock.dial served.1) served.2) }
     ensures outlets { IfOk result (λ served. HaveOutlets jobs served.1) }
@@ -166,8 +168,10 @@ pub fn serve_through_tunnel<R: Threads + Wait + Sync, K: Devices>(
 
     ensures config { IfOk result (λ served. served.0.server.setting.config ≡ config) }
     // the workers' keys, the pumps' recordings and all outlets come back in order; it was a run of
-    // the tunnel if the kits were fresh, apart from their outlets
-    ensures ran { IfOk result (λ served. HaveTunneled K.Doors.Conn.tells AreFresh served.0.server
+    // the tunnel if the kits were fresh, apart from their outlets; if all were served and doors end
+    // by their limit alone, the doors of each worker are at it
+    ensures ran { IfOk result (λ served. HaveTunneled
+        (doors_tell K.Doors.Conn.tells K.Doors.by_limit) AreFresh served.0.server
         (jobs_seen K.Doors.hall K.Store.shelf K.Clock.dial jobs) served.0.pass
         (jobs_seen K.Doors.hall K.Store.shelf K.Clock.dial served.0.jobs) served.1) }
     ensures outlets { IfOk result (λ served. HaveOutlets jobs served.0.jobs) }

@@ -8,6 +8,7 @@ ghost use Rattle.satip_desk.specs.Views.{DeskView, jobs_view};
 ghost use Rattle.satip_tunnel.specs.Silences.{no_outbox};
 ghost use Rattle.satip_world.specs.Recordings.{IsStarted};
 ghost use Rattle.satip_desk.specs.Given.{ComeUnused};
+ghost use Rattle.satip_serve.specs.CommandRan.{EndsAtLimit};
 ghost use Rattle.satip_serve.specs.Servings.{IsEndOfRun, IsOneOf};
 ghost use Rattle.satip_desk.specs.Fresh.{AreUnused};
 ghost use Rattle.satip_serve.specs.Statuses.{serving_status};
@@ -43,6 +44,9 @@ fn run_kits<R: Threads + Wait + Sync, K: Devices>(
         (jobs_view K.Doors.hall K.Outlet.outbox K.Store.shelf K.Clock.dial jobs)
         (tunnel_last_view (jobs_view K.Doors.hall K.Outlet.outbox K.Store.shelf K.Clock.dial)
         (jobs_view K.Doors.hall no_outbox K.Store.shelf K.Clock.dial) last)
+        (serving_status result.end)) }
+    ensures at_limit { IfSome result.last (λ last. EndsAtLimit K.Doors.by_limit
+        (jobs_view K.Doors.hall no_outbox K.Store.shelf K.Clock.dial last.jobs).workers
         (serving_status result.end)) }
     ensures begun { MatchOption result.last (result.end ≡ ServingEnd.OutOfMemory)
         (λ _. IsEndOfRun result.end) }
@@ -92,6 +96,9 @@ fn run_source<R: Threads + Wait + Sync, K: Desk>(
         (jobs_view K.Doors.hall K.Outlet.outbox K.Store.shelf K.Clock.dial)
         (jobs_view K.Doors.hall no_outbox K.Store.shelf K.Clock.dial) (Some source.new)
         result.last result.unused (serving_status result.end)) }
+    ensures at_limit { IfSome result.last (λ last. EndsAtLimit K.Doors.by_limit
+        (jobs_view K.Doors.hall no_outbox K.Store.shelf K.Clock.dial last.jobs).workers
+        (serving_status result.end)) }
 {
     let config = match read_configuration(alloc, source) {
         Ok(config) => config,
@@ -136,6 +143,9 @@ pub fn tunnel_by<R: Threads + Wait + Sync, K: Desk>(
         (jobs_view K.Doors.hall K.Outlet.outbox K.Store.shelf K.Clock.dial)
         (jobs_view K.Doors.hall no_outbox K.Store.shelf K.Clock.dial) result.config
         result.last result.unused (serving_status result.end)) }
+    ensures at_limit { IfSome result.last (λ last. EndsAtLimit K.Doors.by_limit
+        (jobs_view K.Doors.hall no_outbox K.Store.shelf K.Clock.dial last.jobs).workers
+        (serving_status result.end)) }
 {
     match desk.config(name) {
         Ok(mut source) => {

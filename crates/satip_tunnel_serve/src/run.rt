@@ -6,7 +6,7 @@ ghost use Rattle.satip_turn.specs.Shown.{Knows};
 ghost use Rattle.satip_jobs.specs.Crews.{IsSpace};
 ghost use Rattle.satip_desk.specs.Fresh.{FreshJobs};
 ghost use Rattle.satip_serve.specs.Services.{IsFirst, NeverWants};
-ghost use Rattle.satip_tunnel_serve.specs.Deeds.{worker_deed};
+ghost use Rattle.satip_tunnel_serve.specs.Deeds.{doors_tell, worker_deed};
 ghost use Rattle.satip_tunnel_serve.specs.Ran.{TunnelJobsRan};
 ghost use Rattle.satip_tunnel_serve.specs.Services.{PumpedAtSeat, ServesInTunnel, TickedAtSeat, WorksSo};
 ghost use Rattle.satip_tunnel_serve.specs.Views.{posts_seen};
@@ -63,7 +63,8 @@ pub fn run_in_tunnel<
 ) -> (X, TunnelPosts<D, P, M, C, X::Gear>, ServeEnd)
     requires serves { ServesInTunnel X.known X.may_want X.same X.cell X.pass X.Crew.legal
         X.is_stop }
-    requires work { WorksSo X.cell X.pass (worker_deed D.Conn.tells D.hall) F.Fn work.now }
+    requires work { WorksSo X.cell X.pass
+        (worker_deed (doors_tell D.Conn.tells D.by_limit) D.hall) F.Fn work.now }
     requires first { IsFirst (X.pass root) }
     requires workers { IsSpace posts.workers.items posts.worker_gears.items
         space.worker_rooms.items space.workers.items (vec_capacity space.workers) }
@@ -78,8 +79,8 @@ pub fn run_in_tunnel<
 
     // the workers' keys and the pumps' recordings come back in order; it was a run of the tunnel if
     // the kits were fresh, but for one reading of the clock for the start
-    ensures ran { TunnelJobsRan D.Conn.tells (FreshJobs (X.cell root).setting.start)
-        (X.cell root).setting (posts_seen D.hall M.shelf C.dial posts) (X.pass result.0)
+    ensures ran { TunnelJobsRan (doors_tell D.Conn.tells D.by_limit)
+        (FreshJobs (X.cell root).setting.start) (X.cell root).setting (posts_seen D.hall M.shelf C.dial posts) (X.pass result.0)
         (posts_seen D.hall M.shelf C.dial result.1) result.2 }
 {
     run_jobs(

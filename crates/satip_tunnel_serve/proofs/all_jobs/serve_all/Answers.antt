@@ -6,6 +6,7 @@ use Rattle.satip_desk.specs.declared.kits.WorkerKit.{WorkerKit}
 use Rattle.satip_tunnel.specs.declared.silent.Silent.{Silent}
 use Rattle.satip_desk.specs.Fresh.{FreshJobs}
 use Rattle.satip_desk.specs.Views.{JobsView}
+use Rattle.satip_tunnel_serve.specs.Deeds.{doors_tell}
 use Rattle.satip_tunnel_serve.specs.Ran.{HaveTunneled}
 use Rattle.satip_tunnel_serve.specs.Views.{jobs_seen}
 use Rattle.satip_tunnel_serve.proofs.Asides.{have_outlets, silent_seen, sounded_seen}
@@ -40,9 +41,9 @@ returns-in-Ok-clause-ran g c =
     let left = sounded_seen hall shelf dial jobs quiet back _ _ _ last aside.workers aside.pumps aside.worker_outlets aside.pump_outlets ran.worker_count
     ran.pump_count
     again.workers again.pumps again.tick in
-    subst (λ (v : JobsView). HaveTunneled g.K.Doors.Conn.Conn.tells (FreshJobs c.args.server.now.setting.start) c.args.server.now v c.run_silent-pass.result.0
+    subst (λ (v : JobsView). HaveTunneled (doors_tell g.K.Doors.Conn.Conn.tells g.K.Doors.Doors.by_limit) (FreshJobs c.args.server.now.setting.start) c.args.server.now v c.run_silent-pass.result.0
     (jobs_seen hall shelf dial last) c.run_silent-pass.result.2) given
-    (subst (λ (v : JobsView). HaveTunneled g.K.Doors.Conn.Conn.tells (FreshJobs c.args.server.now.setting.start) c.args.server.now (jobs_seen hall shelf dial quiet)
+    (subst (λ (v : JobsView). HaveTunneled (doors_tell g.K.Doors.Conn.Conn.tells g.K.Doors.Doors.by_limit) (FreshJobs c.args.server.now.setting.start) c.args.server.now (jobs_seen hall shelf dial quiet)
     c.run_silent-pass.result.0 v c.run_silent-pass.result.2) (sym left) ran.ran)
 
 pub returns-in-Ok-clause-outlets : goal.returns-in-Ok-clause-outlets

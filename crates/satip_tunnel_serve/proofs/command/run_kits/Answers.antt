@@ -3,6 +3,7 @@ use Rattle.satip_tunnel.specs.Silences.{no_outbox}
 use Rattle.satip_serve.proofs.LeftKits.{come_back_as}
 use Rattle.satip_serve.specs.Statuses.{serving_status}
 use Rattle.satip_serve.proofs.EndLemmas.{come_unused, unused_of}
+use Rattle.satip_serve.proofs.StatusLemmas.{limit_told}
 use Rattle.satip_tunnel_serve.proofs.EndLemmas.{fresh_seen, outlets_stay, tunnel_end}
 use Rattle.satip_tunnel_serve.proofs.AskedOn.{run_asks}
 use Rattle.satip_tunnel_serve.proofs.Channelling.{payloads_sent}
@@ -24,13 +25,17 @@ returns-in-Ok-clause-ran g c =
       payload = laws.payload;
       owners = laws.owners;
       busy = laws.busy;
-      recordings = tunnel_plays _ _ _ _ _ run laws.recordings;
-      frames = c.connections_have_lanes.ensures.law _ _ _ _ run;
-      channels = payloads_sent _ _ (run_asks _ _ _ _ _ run) ran.knows.lawful laws.numbers laws.channels;
+      recordings = tunnel_plays _ _ _ _ _ _ run laws.recordings;
+      frames = c.connections_have_lanes.ensures.law _ _ _ _ _ run;
+      channels = payloads_sent _ _ (run_asks _ _ _ _ _ _ run) ran.knows.lawful laws.numbers laws.channels;
       kits_left = come_back_as g.K.Doors.Doors.hall no_outbox g.K.Outlet.Outlet.outbox g.K.Store.MuxStore.shelf g.K.Clock.Clock.dial c.args.jobs c.in-Ok.last.jobs ran.jobs.kits_left;
       outlets = outlets_stay g.K.Doors.Doors.hall g.K.Outlet.Outlet.outbox g.K.Store.MuxStore.shelf g.K.Clock.Clock.dial c.args.jobs c.in-Ok.last.jobs c.in-Ok.ensures.outlets;
       ends = tunnel_end c.in-Ok.end _ _ (ran.jobs.ended c.args._accepts fresh);
     })
+
+pub returns-in-Ok-clause-at_limit : goal.returns-in-Ok-clause-at_limit
+returns-in-Ok-clause-at_limit g c =
+    rw (ap serving_status c.of_run.ensures.end) (limit_told g.K.Doors.Doors.by_limit c.in-Ok.end _ c.in-Ok.ensures.ran.jobs.at_limit)
 
 pub returns-in-Err-clause-kits_unused : goal.returns-in-Err-clause-kits_unused
 returns-in-Err-clause-kits_unused g c =

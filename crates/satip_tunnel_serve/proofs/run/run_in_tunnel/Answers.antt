@@ -9,10 +9,10 @@ use Rattle.satip_jobs.proofs.Following.{pumps_keep, run_as, workers_keep}
 use Rattle.satip_jobs.proofs.WholeRuns.{made_is, number_is}
 use Rattle.satip_serve.proofs.LeftKits.{come_back}
 use Rattle.satip_tunnel.specs.Silences.{no_outbox}
-use Rattle.satip_tunnel_serve.specs.Deeds.{SeatDid, worker_deed, pump_deed, ticker_deed}
+use Rattle.satip_tunnel_serve.specs.Deeds.{DoorsTell, SeatDid, doors_tell, worker_deed, pump_deed, ticker_deed}
 use Rattle.satip_tunnel_serve.specs.Views.{worker_seen, pump_seen, ticker_seen}
 use Rattle.satip_tunnel_serve.proofs.Seating.{pumped_at_seat, still_seated, ticked_at_seat}
-use Rattle.satip_tunnel_serve.proofs.WholeRuns.{end_tells, tunnel_run}
+use Rattle.satip_tunnel_serve.proofs.WholeRuns.{at_limits, end_tells, tunnel_run}
 use Rattle.satip_tunnel_serve.proofs.run.run_in_tunnel.Goals as goal
 
 pub run_jobs-requires-clause-work : goal.run_jobs-requires-clause-work
@@ -37,6 +37,7 @@ run_jobs-requires-clause-tick g c κs within = record {
 
 pub returns-clause-ran : goal.returns-clause-ran
 returns-clause-ran g c =
+    let tells : DoorsTell = doors_tell g.D.Conn.Conn.tells g.D.Doors.by_limit in
     let worker_of = worker_seen {O = Silent} {P = g.row.P.Denot} g.D.Doors.hall in
     let pump_of = pump_seen {O = Silent} {P = g.row.P.Denot} g.M.MuxStore.shelf in
     let tick_of = ticker_seen {O = Silent} {P = g.row.P.Denot} g.C.Clock.dial in
@@ -45,10 +46,10 @@ returns-clause-ran g c =
     let did =
     run_as g.X.Crew.cell g.X.Crew.pass g.X.Crew.gear g.X.Crew.legal g.X.Crew.is_stop g.X.Crew.goes_on _ _ _ c.args.root c.args.posts root posts
     c.run_jobs.result.2 c.run_jobs.ensures.did
-    (SeatDid g.X.Crew.cell g.X.Crew.pass (worker_deed {O = Silent} {P = g.row.P.Denot} g.D.Conn.Conn.tells g.D.Doors.hall))
+    (SeatDid g.X.Crew.cell g.X.Crew.pass (worker_deed {O = Silent} {P = g.row.P.Denot} tells g.D.Doors.hall))
     (SeatDid g.X.Crew.cell g.X.Crew.pass (pump_deed {O = Silent} {P = g.row.P.Denot} g.M.MuxStore.shelf))
     (SeatDid g.X.Crew.cell g.X.Crew.pass (ticker_deed {O = Silent} {P = g.row.P.Denot} g.C.Clock.dial))
-    (λ x y work. worked_as _ _ (SeatDid g.X.Crew.cell g.X.Crew.pass (worker_deed {O = Silent} {P = g.row.P.Denot} g.D.Conn.Conn.tells g.D.Doors.hall))
+    (λ x y work. worked_as _ _ (SeatDid g.X.Crew.cell g.X.Crew.pass (worker_deed {O = Silent} {P = g.row.P.Denot} tells g.D.Doors.hall))
     (λ a b call. c.requires.work.does a b call) x y work)
     (λ x y work. worked_as _ _ (SeatDid g.X.Crew.cell g.X.Crew.pass (pump_deed {O = Silent} {P = g.row.P.Denot} g.M.MuxStore.shelf))
     (λ a b call. pumped_at_seat g.X.Service.known g.X.Service.may_want g.X.Service.same g.X.Crew.cell g.X.Crew.pass g.X.Crew.legal g.X.Crew.is_stop
@@ -71,10 +72,13 @@ returns-clause-ran g c =
           c.run_jobs.result.2 did (λ (kit : PumpKit g.row.M.Denot Silent g.row.P.Denot). (g.M.MuxStore.shelf kit.store).recording)
           (λ x y did. did.deed.pumped.run.recordings));
       run = λ accepts fresh.
-          tunnel_run g.X.Crew.cell g.X.Crew.pass g.X.Crew.gear g.X.Crew.legal g.X.Crew.is_stop g.X.Crew.goes_on g.D.Conn.Conn.tells worker_of pump_of tick_of
+          tunnel_run g.X.Crew.cell g.X.Crew.pass g.X.Crew.gear g.X.Crew.legal g.X.Crew.is_stop g.X.Crew.goes_on tells worker_of pump_of tick_of
           c.args.root c.args.posts root posts c.run_jobs.result.2 did c.requires.serves.stops c.requires.serves.lawful accepts c.requires.first
           c.run_jobs.ensures.knows fresh c.requires.worker_count c.requires.pump_count;
       ended = λ accepts fresh.
-          end_tells g.X.Crew.cell g.X.Crew.pass g.X.Crew.gear g.X.Crew.legal g.X.Crew.is_stop g.X.Crew.goes_on g.D.Conn.Conn.tells worker_of pump_of tick_of
+          end_tells g.X.Crew.cell g.X.Crew.pass g.X.Crew.gear g.X.Crew.legal g.X.Crew.is_stop g.X.Crew.goes_on tells worker_of pump_of tick_of
           c.args.root c.args.posts root posts c.run_jobs.result.2 did accepts c.run_jobs.ensures.knows fresh.workers_are;
+      at_limit =
+          at_limits g.X.Crew.cell g.X.Crew.pass g.X.Crew.gear g.X.Crew.legal g.X.Crew.is_stop g.X.Crew.goes_on tells worker_of pump_of tick_of
+          c.args.root c.args.posts root posts c.run_jobs.result.2 did c.run_jobs.ensures.knows;
     }
