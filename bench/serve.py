@@ -1,7 +1,8 @@
 #!/usr/bin/env python3
 """Measures `satip serve` on loopback, and plain loops that only send at the same pace: by sendto
-from one socket, and from a connected socket for each receiver, and one that only pauses. It counts
-the calls of the system by kind, too.
+from one socket, and from a connected socket for each receiver; threads that only send and pause
+as the specification asks of a server; and a loop that only pauses. It counts the calls of the
+system by kind, too.
 
     python3 bench/serve.py [PROGRAM [SECONDS]]
 
@@ -36,6 +37,7 @@ from lib.server import (
 
 ADDRESS = "127.0.0.1"
 RECEIVERS, ROUNDS = (1, 16, 60), 5
+LOOPS = ("one", "connected", "jobs")
 
 IDLE_SECONDS, CALLS_SECONDS, PAUSES_A_SECOND = 5, 5, 50
 # Clients that ask for OPTIONS side by side; one worker more serves the one that streams.
@@ -106,19 +108,20 @@ def measure_idle(server):
 
 def measure_sending(server, loop, seconds):
     for count in RECEIVERS:
-        served, one, connected, told = [], [], [], collections.Counter()
+        served, loops, told = [], {kind: [] for kind in LOOPS}, collections.Counter()
         for turn in range(ROUNDS):
             each, receivers, memory = serve_to(count, server, seconds, turn == 0)
             served.append(each)
-            one.append(loop_to(count, loop, "one", seconds))
-            connected.append(loop_to(count, loop, "connected", seconds))
+            for kind, spent in loops.items():
+                spent.append(loop_to(count, loop, kind, seconds))
             told.update(datagrams=receivers.datagrams)
             told.update(late=receivers.late, missing=receivers.missing)
-        least, floor, other = (1e6 * min(it) for it in (served, one, connected))
+        least, one, connected, jobs = (1e6 * min(it) for it in (served, *loops.values()))
         print(
-            f"{count} receivers: factor {least / floor:.2f} ({least / other:.2f} over connected "
-            f"sockets): {least:.3f} s of CPU a million packets, a loop of sendto {floor:.3f} s, "
-            f"over connected sockets {other:.3f} s; datagrams {told['datagrams']}, "
+            f"{count} receivers: factor {least / one:.2f} ({least / connected:.2f} over connected "
+            f"sockets, {least / jobs:.2f} over the threads alone): {least:.3f} s of CPU a million "
+            f"packets, a loop of sendto {one:.3f} s, over connected sockets {connected:.3f} s, the "
+            f"threads {jobs:.3f} s; datagrams {told['datagrams']}, "
             f"late {told['late']}, missing {told['missing']}; resident {memory:.1f} MB",
             flush=True,
         )
@@ -158,7 +161,7 @@ def main():
     with tempfile.TemporaryDirectory() as folder:
         loop = os.path.join(folder, "sendto_loop")
         source = os.path.join(TOP, "bench", "sendto_loop.c")
-        subprocess.run(["gcc", "-O2", "-o", loop, source], check=True)
+        subprocess.run(["gcc", "-O2", "-pthread", "-o", loop, source], check=True)
         recording = make_recording(folder, 6 * seconds + 30)
         server = Server(ADDRESS, workers=ASKERS + 1, fronts=2, recording=recording)
         try:
