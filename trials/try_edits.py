@@ -106,6 +106,11 @@ Body = collections.namedtuple("Body", "path name first last lines")
 said = threading.local()
 
 
+def flags_of(crate):
+    """The flags of a check of the crate: a crate of tests has no body outside of them."""
+    return [*ONE_JOB, *["--test"] * crate.name.endswith("_tests")]
+
+
 def load_rt():
     """The kit's rt as a module, whose checks leave what they print and their seconds in `said`."""
     file = shutil.which("rt")
@@ -316,7 +321,7 @@ class Run:
         if not os.path.isdir(folder):
             os.makedirs(os.path.dirname(folder), exist_ok=True)
             room = tempfile.mkdtemp(prefix=".new-", dir=os.path.dirname(folder))
-            if self.rt.checked(crate, {}, ONE_JOB, room).returncode:
+            if self.rt.checked(crate, {}, flags_of(crate), room).returncode:
                 shutil.rmtree(room, ignore_errors=True)
                 return None, f"{crate.name} itself isn't proved"
             os.rename(room, folder)
@@ -367,7 +372,7 @@ class Run:
         over = tempfile.mkdtemp(prefix=".over-", dir=self.kept)
         try:
             self.rt.linked(seed, f"{over}/seed")
-            ran = self.rt.checked(crate, texts, ONE_JOB, f"{over}/seed")
+            ran = self.rt.checked(crate, texts, flags_of(crate), f"{over}/seed")
         finally:
             shutil.rmtree(over, ignore_errors=True)
         lines = ran.stdout.rstrip("\n").split("\n")
@@ -416,7 +421,7 @@ class Run:
         printed."""
         rt = self.rt
         said.text, said.seconds = "", 0
-        end, told = rt.must_fail(crate, edit.file, ONE_JOB, over)
+        end, told = rt.must_fail(crate, edit.file, flags_of(crate), over)
         where = told.partition(": ")[2].split("\n")[0]
         mark = FAILED if end == rt.MISSED else UNTRIED
         if end in (rt.REFUSED, rt.AT_LIMIT):
