@@ -28,6 +28,8 @@ impl<'a, L: Lot> Feed<Tunnel> for Feeding<'a, L> {
         × Each (λ t. IsInnerEvent t.event) ts
         × (AreAnswered ts → L.has_taken f.lot.now g.lot.now (inners_taken ts)) };
 
+    ghost took_last = { λ f o. L.took_last f.lot.now o };
+
     ghost none_taken = { λ f. (refl, tt, λ _. L.none_taken f.lot.now) };
 
     fn next(&mut self) -> Option<TunnelEvent> {

@@ -39,6 +39,8 @@ impl Lot for Questions {
 
     ghost has_taken = { λ _ _ ts. ts ≡ ts };
 
+    ghost took_last = { λ _ _. Unit {0} };
+
     ghost none_taken = { λ _. refl };
 
     fn next(&mut self) -> Option<Event> {

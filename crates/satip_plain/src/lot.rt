@@ -22,6 +22,9 @@ pub trait Lot {
     // order
     ghost has_taken: { Self → Self → List (Taken Event Answer Output) → Type 0 };
 
+    // the output that it took last may be this one
+    ghost took_last: { Self → Output → Type 0 };
+
     /// Returns the next event, or None if there is none left. It isn't called again after None.
     fn next(&mut self) -> Option<Event>
         requires open { ended self.old ≡ false }
@@ -29,7 +32,8 @@ pub trait Lot {
         ensures given { given self.new ≡ result }
         ensures ended { ended self.new ≡ is_none result }
         ensures taken { (first : Self) (ts : List (Taken Event Answer Output))
-            → has_taken first self.old ts → has_taken first self.new ts };
+            → has_taken first self.old ts → has_taken first self.new ts }
+        ensures took_last { (o : Output) → took_last self.old o → took_last self.new o };
 
     /// Takes the answer to the event that was given, and its output, which is in `out`.
     fn took(&mut self, answer: &Answer, out: &Out)
@@ -38,7 +42,8 @@ pub trait Lot {
         ensures ended { ended self.new ≡ ended self.old }
         ensures taken { (first : Self) (ts : List (Taken Event Answer Output)) (e : Event)
             → given self.old ≡ Some e → has_taken first self.old ts
-            → has_taken first self.new (ts ++ taken e answer.now out.now ∷ []) };
+            → has_taken first self.new (ts ++ taken e answer.now out.now ∷ []) }
+        ensures took_last { took_last self.new out.now };
 
     // from a state to itself, nothing was taken
     ghost none_taken: { (s : Self) → has_taken s s [] };

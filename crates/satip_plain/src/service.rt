@@ -1,5 +1,5 @@
 //! `Service`: a server that executes events one after another.
-ghost use Rattle.std.specs.Prelude.{◌≡◌, ◌<◌, ◌^◌, Bool, false, List, length, None};
+ghost use Rattle.std.specs.Prelude.{◌≡◌, ◌<◌, ◌^◌, Bool, false, List, length, None, OnOk};
 ghost use Rattle.satip_plain.specs.declared.setting.Setting.{Setting};
 ghost use Rattle.satip_plain.specs.Histories.{Item};
 ghost use Rattle.satip_plain.specs.Known.{Known};
@@ -39,13 +39,15 @@ pub trait Service {
 
     /// Executes the events of the lot one after another: at most 64, until the lot has none left or
     /// an event gets no entry. Each executed event is one entry. Entries of other callers may lie
-    /// between them.
+    /// between them. If all went well, `out` has the output of the last event.
     fn burst<L: Lot>(&mut self, lot: &mut L, out: &mut Out) -> Result<(), ServiceFault>
         requires open { L.ended lot.old ≡ false }
         requires none { L.given lot.old ≡ None }
         ensures same { same self.old self.new }
         ensures bursts { Bursts (may_want self.old) (known self.old) (known self.new)
-            (L.ended lot.new) (L.given lot.new) (L.has_taken lot.old lot.new) result };
+            (L.ended lot.new) (L.given lot.new) (L.has_taken lot.old lot.new) result }
+        ensures took_last { OnOk result
+            (L.took_last lot.old out.old → L.took_last lot.new out.new) };
 
     // the entries seen are legal in the setting
     ghost is_legal: { (s : Self) → legal (setting s) (known s).seen };

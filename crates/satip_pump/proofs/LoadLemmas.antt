@@ -1,5 +1,5 @@
 -- A load, packet by packet.
-use Rattle.std.proofs.Common.{◌≡◌, ℕ, Bool, true, false, List, [], ◌∷◌, ◌++◌, flat_map, Some, refl, sym, ap, ◌∙◌, append_assoc, append-nil}
+use Rattle.std.proofs.Common.{◌≡◌, ℕ, Bool, true, false, ◌&&◌, List, [], ◌∷◌, ◌++◌, flat_map, Some, not, refl, sym, ap, ◌∙◌, append_assoc, append-nil}
 use Rattle.std.proofs.lemmas.List.Concat.{flat_map-append}
 use Rattle.std.proofs.lemmas.Bool.{and_parts}
 use Rattle.satip_base.specs.Output.{Datagram, Output}
@@ -11,7 +11,7 @@ use Rattle.satip_plain.specs.declared.events.Event.{Event}
 use Rattle.satip_plain.specs.declared.events.Event.TheVariants.{Packet}
 use Rattle.satip_base.specs.Bundles.{Bundle}
 use Rattle.satip_pump.specs.Bundles.{has_room}
-use Rattle.satip_pump.specs.Loads.{Loaded, is_of, may_give, given_event, Gives, Took}
+use Rattle.satip_pump.specs.Loads.{Loaded, datagrams_left, is_of, may_give, given_event, Gives, Took}
 use Rattle.satip_plain.specs.Pumping.{work_told}
 use Rattle.satip_plain.specs.Pumping.{rest_of}
 
@@ -56,12 +56,12 @@ pub record Passed (b c : Loaded) (answer : Answer) (out : Output) : Type 0 where
   pub packets : c.buffered.packets ≡ rest_of b.buffered.packets
   pub datagrams : c.datagrams ≡ b.datagrams ++ out.datagrams
 
-pub took_more : (a b c : Loaded) (flag : Bool) (bundle : Bundle) (ts : List (Taken Event Answer Output)) (e : Event) (answer : Answer) (out : Output)
-    → given_event flag (may_give b.tune b.work bundle) b.front b.tune b.buffered.packets ≡ Some e → Took a b ts → Passed b c answer out
+pub took_more : (a b c : Loaded) (flag none_left : Bool) (bundle : Bundle) (ts : List (Taken Event Answer Output)) (e : Event) (answer : Answer) (out : Output)
+    → given_event flag (may_give b.tune b.work bundle none_left) b.front b.tune b.buffered.packets ≡ Some e → Took a b ts → Passed b c answer out
     → Took a c (ts ++ taken e answer out ∷ [])
-took_more a b c flag bundle ts e answer out given took passed =
-    let told = given_tells flag (may_give b.tune b.work bundle) b.front b.tune b.buffered.packets e given in
-    let both = and_parts (is_of b.tune b.work) (has_room bundle) told.allowed in
+took_more a b c flag none_left bundle ts e answer out given took passed =
+    let told = given_tells flag (may_give b.tune b.work bundle none_left) b.front b.tune b.buffered.packets e given in
+    let both = and_parts (is_of b.tune b.work) (has_room bundle && none_left) told.allowed in
     let event : e ≡ Packet a.front a.tune told.packet =
     told.event ∙ ap (λ (n : ℕ). Packet n b.tune told.packet) took.front ∙ ap (λ (n : ℕ). Packet a.front n told.packet) took.tune in
     let more = gives_more a.front a.tune a.buffered.packets a.work ts b.buffered.packets b.work (taken e answer out) told.packet (rest_of b.buffered.packets)
@@ -76,3 +76,30 @@ took_more a b c flag bundle ts e answer out given took passed =
           ∙ append_assoc a.datagrams (flat_map (λ (x : Taken Event Answer Output). x.out.datagrams) ts) out.datagrams
           ∙ ap (λ (ds : List Datagram). a.datagrams ++ ds) (sym (sent_more ts (taken e answer out)));
     }
+
+-- the datagrams of an output went into the batch, and none stayed in one
+pub appended_more : (ds es fs : List Datagram) (left now : Bool) (last out : Output) → left ≡ false → now ≡ false → fs ≡ ds ++ es
+    → fs ++ datagrams_left now out ≡ (ds ++ datagrams_left left last) ++ es
+appended_more ds es fs false false last out before none is = append-nil fs ∙ is ∙ ap (λ (x : List Datagram). x ++ es) (sym (append-nil ds))
+appended_more ds es fs true now last out before none is = absurd (cc before)
+appended_more ds es fs false true last out before none is = absurd (cc none)
+
+-- or they stayed there
+pub left_more : (ds : List Datagram) (left now : Bool) (last out new : Output) → left ≡ false → now ≡ true → new ≡ out
+    → ds ++ datagrams_left now new ≡ (ds ++ datagrams_left left last) ++ out.datagrams
+left_more ds false true last out new before some is =
+    ap (λ (o : Output). ds ++ o.datagrams) is ∙ ap (λ (x : List Datagram). x ++ out.datagrams) (sym (append-nil ds))
+left_more ds true now last out new before some is = absurd (cc before)
+left_more ds false false last out new before some is = absurd (cc some)
+
+pub not_left : (left : Bool) → not left ≡ true → left ≡ false
+not_left false is = refl
+not_left true is = absurd (cc is)
+
+-- while an event is given, no datagrams are left in an output
+pub given_left : (flag : Bool) (front tune : ℕ) (work : Work) (bundle : Bundle) (left : Bool) (packets : List (List ℕ)) (e : Event)
+    → given_event flag (may_give tune work bundle (not left)) front tune packets ≡ Some e → left ≡ false
+given_left flag front tune work bundle left packets e given =
+    let may = may_give tune work bundle (not left) in
+    let both = and_parts (is_of tune work) (has_room bundle && not left) (given_tells flag may front tune packets e given).allowed in
+    not_left left (and_parts (has_room bundle) (not left) both.1).1

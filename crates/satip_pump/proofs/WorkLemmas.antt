@@ -1,5 +1,5 @@
 -- What a burst gave.
-use Rattle.std.proofs.Common.{◌≡◌, ℕ, ◌≤◌, Bool, true, false, List, [], ◌∷◌, ◌++◌, length, flat_map, IsSome, Result, Ok, Err, refl, ap, ◌∙◌, subst, arith}
+use Rattle.std.proofs.Common.{◌≡◌, ℕ, ◌≤◌, Bool, true, false, ◌&&◌, List, [], ◌∷◌, ◌++◌, length, flat_map, not, IsSome, Result, Ok, Err, refl, sym, ap, ◌∙◌, subst, arith}
 use Rattle.std.proofs.lemmas.Bool.{and_parts}
 use Rattle.satip_base.specs.Output.{Datagram, Output}
 use Rattle.satip_base.specs.declared.entry.Taken.{Taken}
@@ -18,9 +18,10 @@ use Rattle.satip_pump.specs.Buffers.{Buffered}
 use Rattle.satip_base.specs.Bundles.{Bundle}
 use Rattle.satip_pump.specs.Bundles.{has_room}
 use Rattle.satip_pump.specs.Events.{Makes}
-use Rattle.satip_pump.specs.Loads.{Loaded, is_of, may_give, given_event, Gives, Took}
+use Rattle.satip_pump.specs.Loads.{Loaded, datagrams_left, is_of, may_give, given_event, Gives, Took}
 use Rattle.satip_plain.specs.Pumping.{work_told}
 use Rattle.satip_pump.specs.Works.{Gave, GaveEnds}
+use Rattle.satip_pump.proofs.LoadLemmas.{not_left}
 
 -- no more packets are left than there were
 pub gives_fewer : (front tune : ℕ) (packets : List (List ℕ)) (work : Work) (ts : List (Taken Event Answer Output)) (left : List (List ℕ)) (last : Work)
@@ -33,17 +34,26 @@ gives_fewer front tune packets work (t ∷ ts) left last gives =
     let size : length packets ≡ length (gives.0 ∷ gives.1) = ap length gives.2 in
     omega (arith, rest, size)
 
+-- an event was given only if it might be
+given_allows : (flag may : Bool) (front tune : ℕ) (packets : List (List ℕ)) → IsSome (given_event flag may front tune packets) → may ≡ true
+given_allows true true front tune packets some = refl
+given_allows true false front tune packets some = absurd (cc some)
+given_allows false may front tune packets some = absurd (cc some)
+
 -- an event that was given is of the load's tuning
-pub given_is_of : (flag : Bool) (front tune : ℕ) (work : Work) (bundle : Bundle) (packets : List (List ℕ))
-    → IsSome (given_event flag (may_give tune work bundle) front tune packets) → is_of tune work ≡ true
-given_is_of flag front tune work bundle packets some = allowed flag (may_give tune work bundle) packets refl some
-  where
-    allowed : (flag may : Bool) (packets : List (List ℕ)) → may_give tune work bundle ≡ may → IsSome (given_event flag may front tune packets)
-        → is_of tune work ≡ true
-    allowed true true (p ∷ ps) is some = (and_parts (is_of tune work) (has_room bundle) is).0
-    allowed true true [] is some = absurd (cc some)
-    allowed true false packets is some = absurd (cc some)
-    allowed false may packets is some = absurd (cc some)
+pub given_is_of : (flag : Bool) (front tune : ℕ) (work : Work) (bundle : Bundle) (none_left : Bool) (packets : List (List ℕ))
+    → IsSome (given_event flag (may_give tune work bundle none_left) front tune packets) → is_of tune work ≡ true
+given_is_of flag front tune work bundle none_left packets some =
+    (and_parts (is_of tune work) (has_room bundle && none_left) (given_allows flag (may_give tune work bundle none_left) front tune packets some)).0
+
+-- and no datagrams were left in an output, so those of this one are as good
+pub given_left_in : (flag : Bool) (front tune : ℕ) (work : Work) (bundle : Bundle) (left : Bool) (packets : List (List ℕ)) (last out : Output)
+    → IsSome (given_event flag (may_give tune work bundle (not left)) front tune packets) → datagrams_left left out ≡ datagrams_left left last
+given_left_in flag front tune work bundle left packets last out some =
+    let may = may_give tune work bundle (not left) in
+    let both = and_parts (is_of tune work) (has_room bundle && not left) (given_allows flag may front tune packets some) in
+    let P : Bool → Type 0 = λ b. datagrams_left b out ≡ datagrams_left b last in
+    subst P (sym (not_left left (and_parts (has_room bundle) (not left) both.1).1)) refl
 
 pub gave_fewer : (may_want : Bool) (front tune : ℕ) (work : Work) (k l : Known) (tells : Type 0) (o n : Outbox) (q r : Buffered)
     (result : Result Work ServiceFault)

@@ -1,5 +1,5 @@
 -- The packets of a burst, and the answers to them.
-use Rattle.std.specs.Prelude.{◌≡◌, ◌==◌, ◌&&◌, ℕ, Bool, true, false, List, [], ◌∷◌, ◌++◌, flat_map, Option, Some, None, refl}
+use Rattle.std.specs.Prelude.{◌≡◌, ◌==◌, ◌&&◌, ℕ, Bool, true, false, List, [], ◌∷◌, ◌++◌, flat_map, Option, Some, None, if◌then◌else◌, refl}
 use Rattle.std.proofs.Common.{sym, append-nil}
 use Rattle.satip_base.specs.Output.{Datagram, Output}
 use Rattle.satip_base.specs.declared.entry.Taken.{Taken}
@@ -14,7 +14,7 @@ use Rattle.satip_pump.specs.Bundles.{has_room}
 use Rattle.satip_plain.specs.Pumping.{work_told}
 
 -- a load: its front end and tune number, and the work that the last answer named. The packets that were taken aren't in the buffer any more; their datagrams
--- are in `datagrams`
+-- are in `datagrams`, which are those of the batch and those that were left in an output
 pub record Loaded : Type 0 where
   pub front : ℕ
   pub tune : ℕ
@@ -22,15 +22,19 @@ pub record Loaded : Type 0 where
   pub buffered : Buffered
   pub datagrams : List Datagram
 
+-- the datagrams that were left in the last output, if they were
+abbrev pub datagrams_left : Bool → Output → List Datagram
+datagrams_left is_left last = if is_left then last.datagrams else []
+
 -- whether the work is to read for this tune number
 abbrev pub is_of : ℕ → Work → Bool
 is_of number (Tune mux tune) = tune == number
 is_of number Nothing = false
 is_of number Stopping = false
 
--- whether the next packet may be given
-abbrev pub may_give : ℕ → Work → Bundle → Bool
-may_give tune work bundle = is_of tune work && has_room bundle
+-- whether the next packet may be given: the last answer named this tune number, the batch has room, and no datagrams were left in an output
+abbrev pub may_give : ℕ → Work → Bundle → Bool → Bool
+may_give tune work bundle none_left = is_of tune work && (has_room bundle && none_left)
 
 -- the event of the first packet, if a packet was asked for and may be given
 abbrev pub given_event : Bool → Bool → ℕ → ℕ → List (List ℕ) → Option Event

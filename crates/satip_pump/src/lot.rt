@@ -1,6 +1,6 @@
 //! The packets of a burst.
-ghost use Rattle.std.specs.Prelude.{◌≡◌, true, option_map, refl};
-ghost use Rattle.satip_pump.specs.Loads.{Took, given_event, may_give, is_of, took_none};
+ghost use Rattle.std.specs.Prelude.{◌≡◌, ◌++◌, true, not, option_map, refl};
+ghost use Rattle.satip_pump.specs.Loads.{Took, given_event, may_give, is_of, took_none, datagrams_left};
 ghost use Rattle.satip_plain.specs.Pumping.{work_told};
 
 use crate::batch::Batch;
@@ -8,9 +8,15 @@ use crate::buffer::Buffer;
 use satip_base::Out;
 use satip_plain::{Answer, Event, Lot, Work};
 use satip_ts::Packet;
+use std::snapshot::Snapshot;
+
+/// The least count of datagrams that are sent from the output of their event. To copy fewer costs
+/// less than a burst that ends early.
+const MANY: usize = 16;
 
 /// Gives the waiting packets as events of a front end for one tune number. It goes on while the
-/// answers name that number and the batch has room for the datagrams of any event.
+/// answers name that number and the batch has room for the datagrams of any event, until an event
+/// has many datagrams. These stay in the event's output, and the others are in the batch.
 #[derive(Drop)]
 pub(crate) struct Load<'a> {
     pub front: u16,
@@ -19,6 +25,10 @@ pub(crate) struct Load<'a> {
     pub work: Work,
     pub given: bool,
     pub ended: bool,
+    /// Whether the datagrams of the last event stay in its output.
+    pub is_left: bool,
+    /// The output of the last event; the one before the burst if there was none.
+    pub last: &'a mut Snapshot<Out>,
     pub buffer: &'a mut Buffer,
     pub batch: &'a mut Batch,
 }
@@ -48,10 +58,11 @@ impl Load<'_> {
     // Returns the packet that is given next.
     fn next_packet(&self) -> Option<Packet>
         ensures next { option_map (Event.Packet self.now.front self.now.tune) result
-            ≡ given_event true (may_give self.now.tune self.now.work self.now.batch.now)
+            ≡ given_event true
+            (may_give self.now.tune self.now.work self.now.batch.now (not self.now.is_left))
             self.now.front self.now.tune self.now.buffer.now.packets }
     {
-        if !is_for(self.work, self.tune) || !self.batch.has_room() {
+        if !is_for(self.work, self.tune) || !self.batch.has_room() || self.is_left {
             return None;
         }
         self.buffer.first()
@@ -59,8 +70,8 @@ impl Load<'_> {
 }
 
 impl Lot for Load<'_> {
-    ghost given = { λ l. given_event l.given (may_give l.tune l.work l.batch.now) l.front l.tune
-        l.buffer.now.packets };
+    ghost given = { λ l. given_event l.given
+        (may_give l.tune l.work l.batch.now (not l.is_left)) l.front l.tune l.buffer.now.packets };
 
     ghost ended = { λ l. l.ended };
 
@@ -71,16 +82,18 @@ impl Lot for Load<'_> {
           tune = f.tune;
           work = f.work;
           buffered = f.buffer.now;
-          datagrams = f.batch.now.datagrams;
+          datagrams = f.batch.now.datagrams ++ datagrams_left f.is_left f.last.now.value;
         })
         (record {
           front = g.front;
           tune = g.tune;
           work = g.work;
           buffered = g.buffer.now;
-          datagrams = g.batch.now.datagrams;
+          datagrams = g.batch.now.datagrams ++ datagrams_left g.is_left g.last.now.value;
         })
         ts };
+
+    ghost took_last = { λ l o. l.last.now.value ≡ o };
 
     ghost none_taken = { λ l. (
       refl,
@@ -90,7 +103,7 @@ impl Lot for Load<'_> {
             tune = l.tune;
             work = l.work;
             buffered = l.buffer.now;
-            datagrams = l.batch.now.datagrams;
+            datagrams = l.batch.now.datagrams ++ datagrams_left l.is_left l.last.now.value;
           }),
     ) };
 
@@ -116,6 +129,11 @@ impl Lot for Load<'_> {
         self.given = false;
         self.work = work_of(answer);
         self.buffer.pass();
-        self.batch.append(out);
+        *self.last = Snapshot::of(out);
+        let is_left = out.count() >= MANY;
+        self.is_left = is_left;
+        if !is_left {
+            self.batch.append(out);
+        }
     }
 }

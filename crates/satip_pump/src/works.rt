@@ -1,5 +1,7 @@
 //! Events that ask for work.
-ghost use Rattle.std.specs.Prelude.{◌≡◌, ◌≤◌, length, false};
+ghost use Rattle.std.specs.Prelude.{◌≡◌, ◌++◌, ◌≤◌, length, true, false};
+ghost use Rattle.satip_pump.specs.Loads.{datagrams_left};
+ghost use Rattle.satip_world.specs.Deliveries.{Delivers};
 ghost use Rattle.satip_pump.specs.Works.{AsksWork, Works, Gave, give_state};
 
 use crate::batch::Batch;
@@ -8,7 +10,8 @@ use crate::events::make_event;
 use crate::lot::{Load, work_of};
 use satip_base::Out;
 use satip_plain::{Event, Service, ServiceFault, Work};
-use satip_world::Outlet;
+use satip_world::{Outlet, post_all};
+use std::snapshot::Snapshot;
 
 /// Executes an event whose answer names the next work, and sends its datagrams.
 pub(crate) fn make_work<S: Service, O: Outlet>(
@@ -30,9 +33,21 @@ pub(crate) fn make_work<S: Service, O: Outlet>(
     }
 }
 
-/// Gives the waiting packets in one burst, while the answers name this tune number and the batch
-/// has room. Then sends their datagrams. Holds the outlet's lock meanwhile. Returns the work of the
-/// last answer, or `work` if no packet was given.
+// Sends the datagrams of a batch, and then those of `out`, if some were left there.
+fn post_burst<O: Outlet>(batch: &Batch, is_left: bool, out: &Out, outlet: &mut O)
+    requires held { (O.outbox outlet.old).held ≡ true }
+    ensures delivers { Delivers O.tells (O.outbox outlet.old) (O.outbox outlet.new)
+        (batch.now.datagrams ++ datagrams_left is_left out.now) }
+{
+    batch.post(outlet);
+    if is_left {
+        post_all(out, outlet);
+    }
+}
+
+/// Gives the waiting packets in one burst, while the answers name this tune number, the batch has
+/// room, and no event has many datagrams. Then sends their datagrams. Holds the outlet's lock
+/// meanwhile. Returns the work of the last answer, or `work` if no packet was given.
 pub(crate) fn give<S: Service, O: Outlet>(
     service: &mut S,
     outlet: &mut O,
@@ -52,17 +67,21 @@ pub(crate) fn give<S: Service, O: Outlet>(
 {
     outlet.lock();
     batch.clear();
+    let mut last = Snapshot::of(out);
     let mut load = Load {
         front: tuning.0,
         tune: tuning.1,
         work,
         given: false,
         ended: false,
+        is_left: false,
+        last: &mut last,
         buffer,
         batch,
     };
     let made = service.burst(&mut load, out);
-    load.batch.post(outlet);
+    let is_left = load.is_left;
+    post_burst(load.batch, is_left, out, outlet);
     outlet.unlock();
     match made {
         Ok(()) => Ok(load.work),

@@ -21,6 +21,8 @@ impl<'a, L: Lot> Feed<Server> for Feeding<'a, L> {
     ghost has_taken = { λ f g ts. (g.lot.ghost_name ≡ f.lot.ghost_name)
         × L.has_taken f.lot.now g.lot.now ts };
 
+    ghost took_last = { λ f o. L.took_last f.lot.now o };
+
     ghost none_taken = { λ f. (refl, L.none_taken f.lot.now) };
 
     fn next(&mut self) -> Option<Event> {

@@ -56,6 +56,8 @@ impl Feed<Counter> for Ones {
 
     ghost has_taken = { λ f g ts. f.left ≡ g.left + length ts };
 
+    ghost took_last = { λ _ _. Unit {0} };
+
     ghost none_taken = { λ f. Prim.search rules };
 
     fn next(&mut self) -> Option<u64> {

@@ -46,7 +46,7 @@ impl Solo {
 
 impl Service for Solo {
     ghost use Rattle.std.proofs.Common.{◌∙◌};
-    ghost use Rattle.std.specs.Prelude.{true, false, refl, List, None, MatchResult, IfErr};
+    ghost use Rattle.std.specs.Prelude.{true, false, refl, List, None, MatchResult, IfErr, OnOk};
     ghost use Rattle.satip_base.specs.Output.{Output};
     ghost use Rattle.satip_base.specs.declared.entry.Taken.{Taken};
     ghost use Rattle.satip_plain.specs.declared.answers.Answer.{Answer as Answered};
@@ -98,6 +98,8 @@ impl Service for Solo {
         ensures same { (log_of self.new).setting ≡ (log_of self.old).setting }
         ensures bursts { Bursts true (known_of (log_of self.old)) (known_of (log_of self.new))
             (L.ended lot.new) (L.given lot.new) (L.has_taken lot.old lot.new) result }
+        ensures took_last { OnOk result
+            (L.took_last lot.old out.old → L.took_last lot.new out.new) }
         ensures wants { IfErr result (λ fault. fault ≡ ServiceFault.Want) }
         ensures goes { (ts : List (Taken Happening Answered Output))
             × L.has_taken lot.old lot.new ts

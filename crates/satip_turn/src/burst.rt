@@ -54,6 +54,7 @@ pub(crate) fn feed_one<S: Served, F: Feed<S>>(
         (F.given feed.new ≡ None) (F.given feed.new ≡ None) (IsSome (F.given feed.new)) }
     ensures full { MatchFed result
         (Unit {0}) (Unit {0}) (place.new ≡ LONGEST_HISTORY) }
+    ensures took_last { F.took_last feed.old out.old → F.took_last feed.new out.new }
 {
     let Some(event) = feed.next() else {
         return Fed::Ended;
@@ -91,6 +92,7 @@ pub(crate) fn feed_many<S: Served, F: Feed<S>>(
     ensures few { result.made < BURST → (F.ended feed.new ≡ true) ⊎ (result.spent ≡ true) }
     ensures spent { IsTrue result.spent ↔ IsSome (F.given feed.new) }
     ensures full { result.spent ≡ true → place.new ≡ LONGEST_HISTORY }
+    ensures took_last { F.took_last feed.old out.old → F.took_last feed.new out.new }
 {
     for made in 0..BURST {
         match feed_one(table, seat, place, served, feed, out) {

@@ -128,6 +128,9 @@ impl<S: Served> TurnCell<S> {
         // an event that the feed gave has no entry
         ensures spent { IsTrue result.spent ↔ IsSome (F.given feed.new) }
         ensures full { result.spent ≡ true → length pass.new.seen ≡ LONGEST_HISTORY }
+
+        // `out` is the output of the last event that has one
+        ensures took_last { F.took_last feed.old out.old → F.took_last feed.new out.new }
         ensures met { pass.old.met ≤ pass.new.met }
     {
         let mut served = wait_turn(rt, &self.table.shared, &mut pass.seat);

@@ -17,6 +17,9 @@ pub trait Feed<S: Served> {
     // order
     ghost has_taken: { Self → Self → List (Taken S.Event S.Answer S.Out) → Type 0 };
 
+    // the output that it took last may be this one
+    ghost took_last: { Self → S.Out → Type 0 };
+
     /// Returns the next event, or None if there is none left. It isn't called again after None.
     fn next(&mut self) -> Option<S::Event>
         requires open { ended self.old ≡ false }
@@ -24,7 +27,8 @@ pub trait Feed<S: Served> {
         ensures given { given self.new ≡ result }
         ensures ended { ended self.new ≡ is_none result }
         ensures taken { (first : Self) (ts : List (Taken S.Event S.Answer S.Out))
-            → has_taken first self.old ts → has_taken first self.new ts };
+            → has_taken first self.old ts → has_taken first self.new ts }
+        ensures took_last { (o : S.Out) → took_last self.old o → took_last self.new o };
 
     /// Takes the answer to the event that was given, and its output, which is in `out`.
     fn took(&mut self, answer: &S::Answer, out: &S::Out)
@@ -33,7 +37,8 @@ pub trait Feed<S: Served> {
         ensures ended { ended self.new ≡ ended self.old }
         ensures taken { (first : Self) (ts : List (Taken S.Event S.Answer S.Out)) (e : S.Event)
             → given self.old ≡ Some e → has_taken first self.old ts
-            → has_taken first self.new (ts ++ taken e answer.now out.now ∷ []) };
+            → has_taken first self.new (ts ++ taken e answer.now out.now ∷ []) }
+        ensures took_last { took_last self.new out.now };
 
     // from a state to itself, nothing was taken
     ghost none_taken: { (s : Self) → has_taken s s [] };

@@ -31,6 +31,8 @@ impl<'a> Lot for GatedLot<'a> {
 
     ghost has_taken = { λ _ _ ts. ts ≡ ts };
 
+    ghost took_last = { λ _ _. Unit {0} };
+
     ghost none_taken = { λ _. refl };
 
     fn next(&mut self) -> Option<Event> {

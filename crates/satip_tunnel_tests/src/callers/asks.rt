@@ -35,6 +35,8 @@ impl Lot for Asks {
 
     ghost has_taken = { λ a b ts. a.left ≡ b.left + length ts };
 
+    ghost took_last = { λ _ _. Unit {0} };
+
     ghost none_taken = { λ a. Prim.search rules };
 
     fn next(&mut self) -> Option<Event> {

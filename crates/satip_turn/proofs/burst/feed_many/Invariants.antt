@@ -8,3 +8,4 @@ invariant-loop-made g l =
     (l.seat.table_id ≡ l.initial.seat.table_id)
     × IsUnderWay g.S.Served.setting g.S.Served.stands_for (g.F.Feed.has_taken l.initial.feed l.feed) l.initial.seat.me.0 l.made l.seat.me l.served l.place
     × (g.F.Feed.ended l.feed ≡ false) × (g.F.Feed.given l.feed ≡ None)
+    × (g.F.Feed.took_last l.initial.feed l.initial.out → g.F.Feed.took_last l.feed l.out)

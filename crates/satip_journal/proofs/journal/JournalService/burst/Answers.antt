@@ -15,6 +15,7 @@ loop-made-init g c = (
   same_journal g.K.JobSink.tells _,
   c.requires.open,
   c.requires.none,
+  λ last. last,
 )
 
 pub loop-made-preserved : goal.loop-made-preserved
@@ -30,6 +31,7 @@ loop-made-preserved g c =
       same_journal_then g.K.JobSink.tells _ _ _ i.1 c.call.ensures.same,
       c.took.ensures.ended ∙ c.in-Some.ensures.ended,
       c.took.ensures.given,
+      λ _. c.took.ensures.took_last,
     )
 
 pub returns-in-Err-clause-same : goal.returns-in-Err-clause-same

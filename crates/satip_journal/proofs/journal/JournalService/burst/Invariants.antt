@@ -13,3 +13,4 @@ invariant-loop-made g l =
     (g.K.JobSink.drain l.fn.self.sink) l.fn.self.failed)
     (kept l.self.caller.server.now l.self.caller.pass l.self.number (g.K.JobSink.job l.self.sink) (g.K.JobSink.drain l.self.sink) l.self.failed)
     × (g.L.Lot.ended l.lot ≡ false) × (g.L.Lot.given l.lot ≡ None)
+    × (g.L.Lot.took_last l.fn.lot l.fn.out → g.L.Lot.took_last l.lot l.out)

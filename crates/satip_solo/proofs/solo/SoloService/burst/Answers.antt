@@ -11,7 +11,7 @@ use Rattle.satip_solo.proofs.solo.SoloService.burst.Goals as goal
 pub loop-made-init : goal.loop-made-init
 loop-made-init g c =
     let none = g.met.L.Lot.none_taken c.args.lot.now in
-    (under_way_none 0 _ _ none, ([], none, refl), refl, c.requires.open, c.requires.none)
+    (under_way_none 0 _ _ none, ([], none, refl), refl, c.requires.open, c.requires.none, λ last. last)
 
 pub loop-made-preserved : goal.loop-made-preserved
 loop-made-preserved g c =
@@ -26,4 +26,5 @@ loop-made-preserved g c =
       goes.same_setting ∙ i.2,
       c.took.ensures.ended ∙ c.in-Some.ensures.ended,
       c.took.ensures.given,
+      λ _. c.took.ensures.took_last,
     )

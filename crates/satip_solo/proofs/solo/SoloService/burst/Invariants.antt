@@ -15,3 +15,4 @@ invariant-loop-made g l =
     × ((ts : List (Taken Event Answer Output)) × g.L.Lot.has_taken l.fn.lot l.lot ts × GoesOn (log_of l.fn.self) ts (log_of l.self))
     × ((log_of l.self).setting ≡ (log_of l.fn.self).setting)
     × (g.L.Lot.ended l.lot ≡ false) × (g.L.Lot.given l.lot ≡ None)
+    × (g.L.Lot.took_last l.fn.lot l.fn.out → g.L.Lot.took_last l.lot l.out)

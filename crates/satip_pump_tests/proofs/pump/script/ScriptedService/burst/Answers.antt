@@ -11,4 +11,5 @@ loop-made-preserved g c =
           (λ ts has. c.took.ensures.taken c.args.lot.now ts c.in-Some.event c.in-Some.ensures.given (c.next.ensures.taken c.args.lot.now ts has)),
       c.took.ensures.ended ∙ c.in-Some.ensures.ended,
       c.took.ensures.given,
+      λ _. c.took.ensures.took_last,
     )

@@ -11,3 +11,4 @@ invariant-loop-made g l =
     (known_of (map (λ (n : Note). item_of n.kind n.front n.number n.packet n.answer n.sends) l.self.notes.items))
     (g.L.Lot.has_taken l.fn.lot l.lot) l.made
     × (g.L.Lot.ended l.lot ≡ false) × (g.L.Lot.given l.lot ≡ None)
+    × (g.L.Lot.took_last l.fn.lot l.fn.out → g.L.Lot.took_last l.lot l.out)
