@@ -2,7 +2,7 @@
 
 use crate::checks::check;
 use crate::sockets::{
-    LOCALHOST, check_heard, check_received, connect, listen, receive, socket_addr,
+    LOCALHOST, check_heard, check_received, connect, listen, no_arrivals, receive, socket_addr,
 };
 use satip_base::{Peer, Put};
 use satip_host::{Start, Starts};
@@ -27,8 +27,8 @@ fn next_come(doors: &mut RealDoors) -> Door<RealConn> {
     Door::Idle
 }
 
-// What doors say of a client, and its connection.
-type Came = (DoorKind, Peer, RealConn);
+/// What doors say of a client, and its connection.
+pub(crate) type Came = (DoorKind, Peer, RealConn);
 
 // Returns the next client at the doors.
 fn next_client(rt: &impl Abort, doors: &mut RealDoors) -> Came {
@@ -79,8 +79,8 @@ fn open_doors(rt: &impl Abort, host: HostRuntime, timeout_s: u32, limit: u32) ->
     }
 }
 
-// Opens doors, and connects a client for RTSP, which comes by them.
-fn meet(rt: &impl Abort, host: HostRuntime, timeout_s: u32) -> (RealDoors, TcpStream, Came) {
+/// Opens doors, and connects a client for RTSP, which comes by them.
+pub(crate) fn meet(rt: &impl Abort, host: HostRuntime, timeout_s: u32) -> (RealDoors, TcpStream, Came) {
     let Server {
         mut doors,
         rtsp,
@@ -255,8 +255,8 @@ fn a_client_that_still_sends_gets_its_last_reply(rt: HostRuntime) {
 }
 
 // Returns the listener that can't be bound.
-fn bind_fault(host: HostRuntime, ip: u32, http_port: u16) -> &'static str {
-    match Listeners::bind(&host, ip, 0, http_port, 8) {
+fn bind_fault(rt: &impl Abort, host: HostRuntime, ip: u32, http_port: u16) -> &'static str {
+    match Listeners::bind(&host, ip, 0, http_port, 8, no_arrivals(rt, host)) {
         Ok(_) => "none",
         Err(BindFault::Rtsp(_)) => "RTSP",
         Err(BindFault::Http(_)) => "HTTP",
@@ -271,6 +271,6 @@ fn a_port_in_use_is_refused(rt: HostRuntime) {
         ("a port in use", LOCALHOST, used, "HTTP"),
         ("another host's address", 0xc000_0201, 0, "RTSP"),
     ] {
-        check(&rt, name, bind_fault(rt, ip, http_port), fault);
+        check(&rt, name, bind_fault(&rt, rt, ip, http_port), fault);
     }
 }

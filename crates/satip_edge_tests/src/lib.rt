@@ -12,6 +12,8 @@ mod doors;
 #[cfg(test)]
 mod kits;
 #[cfg(test)]
+mod lulls;
+#[cfg(test)]
 mod outlets;
 #[cfg(test)]
 mod recordings;

@@ -2,6 +2,7 @@
 
 use crate::checks::{check, check_within};
 use crate::doors::start;
+use crate::sockets::no_arrivals;
 use satip_base::{Source, Taken, Text};
 use satip_playout::*;
 use satip_ts::Packet;
@@ -9,7 +10,7 @@ use satip_world::{MuxStore, Pacer};
 use std::alloc::Global;
 use std::io::Write;
 use std::process::Abort;
-use std::sync::Arc;
+use std::sync::{Arc, Wait};
 use std::time::Instant;
 use std::{fs, process};
 
@@ -328,14 +329,19 @@ fn a_recording_without_packets_ends(rt: HostRuntime) {
     }
 }
 
-// Returns the milliseconds since a moment.
-fn elapsed_ms(rt: &impl Abort, host: HostRuntime, begin: &Instant) -> u64 {
+/// Returns the milliseconds since a moment.
+pub(crate) fn elapsed_ms(rt: &impl Abort, host: HostRuntime, begin: &Instant) -> u64 {
     let elapsed = begin.elapsed(&host).expect(rt, "clock");
     u64::try_from(elapsed.as_millis()).unwrap_or(0)
 }
 
-// Returns the milliseconds that this number of pauses take.
-fn time_pauses(rt: &impl Abort, host: HostRuntime, pacer: &mut RealPacer, count: u32) -> u64 {
+/// Returns the milliseconds that this number of pauses take.
+pub(crate) fn time_pauses<R: Wait + Drop>(
+    rt: &impl Abort,
+    host: HostRuntime,
+    pacer: &mut RealPacer<R>,
+    count: u32,
+) -> u64 {
     let begin = Instant::now(&host).expect(rt, "clock");
     for _ in 0..count {
         pacer.pause();
@@ -351,11 +357,11 @@ fn take_burst(rt: &impl Abort, from: &mut RealRecording, buf: &mut [u8; 3760]) {
 }
 
 // Returns the milliseconds that ten bursts take: each takes 64 packets and pauses, as a pump does.
-fn time_bursts(
+fn time_bursts<R: Wait + Drop>(
     rt: &impl Abort,
     host: HostRuntime,
     from: &mut RealRecording,
-    pacer: &mut RealPacer,
+    pacer: &mut RealPacer<R>,
 ) -> u64 {
     let mut buf = [0; 3760];
     let begin = Instant::now(&host).expect(rt, "clock");
@@ -382,10 +388,16 @@ fn clocked(rt: &impl Abort, alloc: Global, step: u64) -> Vec<u8> {
 }
 
 // Returns a recording, and a pacer that follows it.
-fn followed(rt: &impl Abort, host: HostRuntime, file: &Scratch) -> (RealRecording, RealPacer) {
-    let progress = Arc::new(host.alloc(), Progress::new()).expect(rt, "out of memory");
+fn followed<R: Wait + Drop>(
+    rt: &impl Abort,
+    host: HostRuntime,
+    waits: R,
+    file: &Scratch,
+) -> (RealRecording, RealPacer<R>) {
+    let progress = Arc::new(host.alloc(), Progress::new(true)).expect(rt, "out of memory");
     let followed = Arc::try_clone(&progress).expect(rt, "another owner");
-    let pacer = RealPacer::following(host, start(rt, host.alloc()), followed);
+    let start = start(rt, host.alloc());
+    let pacer = RealPacer::following(host, waits, start, followed, no_arrivals(rt, host), 0);
     let playing = Playing {
         repeats: false,
         progress: Some(progress),
@@ -396,10 +408,16 @@ fn followed(rt: &impl Abort, host: HostRuntime, file: &Scratch) -> (RealRecordin
 
 // Returns the milliseconds that ten bursts of a recording take, with a reference each `step` ticks,
 // and those of a pause after them, in which nothing is read.
-fn time_recording(rt: &impl Abort, host: HostRuntime, word: &str, step: u64) -> (u64, u64) {
+fn time_recording<R: Wait + Drop>(
+    rt: &impl Abort,
+    host: HostRuntime,
+    waits: R,
+    word: &str,
+    step: u64,
+) -> (u64, u64) {
     let bytes = clocked(rt, host.alloc(), step);
     let file = scratch_file(rt, host, word, &bytes);
-    let (mut from, mut pacer) = followed(rt, host, &file);
+    let (mut from, mut pacer) = followed(rt, host, waits, &file);
     let bursts_ms = time_bursts(rt, host, &mut from, &mut pacer);
     (bursts_ms, time_pauses(rt, host, &mut pacer, 1))
 }
@@ -408,7 +426,7 @@ fn time_recording(rt: &impl Abort, host: HostRuntime, word: &str, step: u64) -> 
 fn a_pause_follows_the_recording(rt: HostRuntime) {
     // 8 packets in 5 ms, so 64 in 40 ms; and 8 in 0.5 ms, so 64 in 4 ms.
     for (word, step, least, most) in [("slow", 135_000, 375, 1500), ("fast", 13_500, 50, 190)] {
-        let (bursts_ms, idle_ms) = time_recording(&rt, rt, word, step);
+        let (bursts_ms, idle_ms) = time_recording(&rt, rt, rt, word, step);
         check_within(&rt, word, bursts_ms, least, most);
         check_within(&rt, word, idle_ms, 19, u64::MAX);
     }
@@ -416,7 +434,7 @@ fn a_pause_follows_the_recording(rt: HostRuntime) {
 
 #[test]
 fn a_pause_takes_20_milliseconds(rt: HostRuntime) {
-    let mut pacer = RealPacer::new(rt, start(&rt, rt.alloc()));
+    let mut pacer: RealPacer<HostRuntime> = RealPacer::new(rt, start(&rt, rt.alloc()));
     let millis = time_pauses(&rt, rt, &mut pacer, 3);
     check_within(&rt, "three pauses", millis, 57, 5_000);
 }

@@ -2,10 +2,12 @@
 
 use crate::checks::check;
 use satip_base::Address;
+use satip_host::Arrivals;
 use satip_real::{Listeners, RealConn, RealInlet};
 use satip_world::{Conn, Inlet, Received};
 use std::net::{Ipv4Addr, SocketAddr, TcpListener, TcpStream, UdpSocket};
 use std::process::Abort;
+use std::sync::Arc;
 use std::time::Duration;
 
 pub(crate) const LOCALHOST: u32 = 0x7f00_0001;
@@ -23,9 +25,15 @@ pub(crate) fn socket_addr(last: u8, port: u16) -> SocketAddr {
     SocketAddr::from((Ipv4Addr::new(127, 0, 0, last), port))
 }
 
+/// Returns the count of arrivals of a server to which nothing came.
+pub(crate) fn no_arrivals(rt: &impl Abort, host: HostRuntime) -> Arc<Arrivals> {
+    let arrivals = Arrivals::with_places(host.alloc(), 1).expect(rt, "out of memory");
+    Arc::new(host.alloc(), arrivals).expect(rt, "out of memory")
+}
+
 /// Binds the listeners of a server at free ports of loopback.
 pub(crate) fn listen(rt: &impl Abort, host: HostRuntime) -> Listeners {
-    Listeners::bind(&host, LOCALHOST, 0, 0, 8).expect(rt, "listeners")
+    Listeners::bind(&host, LOCALHOST, 0, 0, 8, no_arrivals(rt, host)).expect(rt, "listeners")
 }
 
 /// Binds a listener at a free port of 127.0.0.`last`. Returns its port too.

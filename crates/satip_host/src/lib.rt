@@ -3,6 +3,7 @@
 //! Only tested: that no step of the wall clock moves the session clock, and that keys differ.
 #![tactic(auto)]
 
+mod arrivals;
 mod clock;
 mod key;
 mod report;
@@ -12,6 +13,7 @@ mod stopwatch;
 #[cfg(test)]
 mod tests;
 
+pub use arrivals::Arrivals;
 pub use clock::{ClockStart, RealClock, SteadyTime};
 pub use key::read_key;
 pub use report::{Throttle, report_line};

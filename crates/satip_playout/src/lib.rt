@@ -4,6 +4,7 @@
 //! Only tested: which bytes the files give, and the rate.
 #![tactic(auto)]
 
+mod lull;
 mod pacer;
 mod pieces;
 mod progress;

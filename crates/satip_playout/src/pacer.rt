@@ -1,17 +1,18 @@
-//! Pauses of 20 ms, or as long as a recording's clock says.
+//! Pauses of 20 ms, as long as a recording's clock says, or until something arrives.
 
 ghost use Rattle.std.specs.Prelude.{◌≡◌, ◌⊎◌, ◌+◌, ◌-◌, ◌<◌, ◌↔◌, max, IsNone, IfSome};
 
+use crate::lull::Lull;
 use crate::progress::{Place, Progress};
-use satip_host::Start;
+use satip_host::{Arrivals, Start};
 use satip_world::Pacer;
 use std::marker::Model;
-use std::sync::Arc;
+use std::sync::{Arc, Wait};
 use std::thread;
 use std::time::{Duration, Instant};
 
 /// The length of a pause without a recording's clock, in microseconds.
-const PAUSE: u64 = 20_000;
+pub(crate) const PAUSE: u64 = 20_000;
 
 /// The least pause, in microseconds. A pump that is late gives at most 64 packets a millisecond.
 const LEAST: u64 = 1_000;
@@ -55,29 +56,30 @@ impl Anchor {
 struct Follower {
     progress: Arc<Progress>,
     anchor: Option<Anchor>,
-    // The count of reported places before the last pause.
+    // The count of reports before the last pause.
     pieces: u64,
 }
 
 impl Follower {
-    // Returns the length of the pause that begins now, in microseconds.
-    fn pause(&mut self, rt: &HostRuntime) -> u64 {
+    // Returns the length of the pause that begins now, in microseconds; `None` if nothing was read
+    // since the last pause.
+    fn length(&mut self, rt: &HostRuntime) -> Option<u64> {
         let pieces = self.progress.pieces();
         let idle = pieces == self.pieces;
         self.pieces = pieces;
-        let (Some(place), Ok(now)) = (self.progress.place(), Instant::now(rt)) else {
-            self.anchor = None;
-            return PAUSE;
-        };
         if idle {
             self.anchor = None;
-            return PAUSE;
+            return None;
         }
+        let (Some(place), Ok(now)) = (self.progress.place(), Instant::now(rt)) else {
+            self.anchor = None;
+            return Some(PAUSE);
+        };
         match by_anchor(self.anchor, &place, now) {
-            Some(micros) => micros,
+            Some(micros) => Some(micros),
             None => {
                 self.anchor = Anchor::after_pause(&place, now);
-                PAUSE
+                Some(PAUSE)
             }
         }
     }
@@ -93,25 +95,44 @@ fn by_anchor(anchor: Option<Anchor>, place: &Place, now: Instant) -> Option<u64>
     pause_until(place.micros.saturating_sub(anchor.micros), passed)
 }
 
+// The pauses of a pump: by its recording's clock, or until something arrives.
+#[derive(Drop)]
+struct PumpPauses<R: Wait + Drop> {
+    follower: Follower,
+    lull: Lull<R>,
+}
+
+impl<R: Wait + Drop> PumpPauses<R> {
+    fn pause(&mut self, host: &HostRuntime) {
+        match self.follower.length(host) {
+            Some(micros) => thread::sleep(host, Duration::from_micros(micros)),
+            None => self.lull.pause(host),
+        }
+    }
+}
+
 /// A pacer whose pauses last 20 ms, or as long as a recording's clock says. In the second case a
 /// pause ends when the monotonic clock has advanced as much as the recording's clock since both
 /// were set. It lasts at least 1 ms. A pause lasts 20 ms, and the clocks are set again, in these
 /// cases:
 /// - no two references without a break between them were read yet;
 /// - the recording's clock had a break;
-/// - the clocks are more than a second apart;
-/// - nothing was read since the last pause.
+/// - the clocks are more than a second apart.
+///
+/// If a pump has read nothing since its last pause, the pause is a lull, and the clocks are set
+/// again. A lull lasts until something arrives from a client, for up to a second. After an arrival
+/// ten lulls last 20 ms, until the request is answered.
 ///
 /// A pause is a step of its job.
 #[derive(Drop)]
-pub struct RealPacer {
-    rt: HostRuntime,
+pub struct RealPacer<R: Wait + Drop> {
+    host: HostRuntime,
     start: Start,
     pauses: u64,
-    follower: Option<Follower>,
+    pump: Option<PumpPauses<R>>,
 }
 
-impl Model for RealPacer {
+impl<R: Wait + Drop> Model for RealPacer<R> {
     ghost use Rattle.std.specs.Prelude.{ℕ};
 
     ghost Value = { ℕ };
@@ -119,54 +140,56 @@ impl Model for RealPacer {
     ghost view = { λ p. p.pauses };
 }
 
-impl RealPacer {
+impl<R: Wait + Drop> RealPacer<R> {
     /// Creates a pacer of a job that made no pause yet. Its pauses last 20 ms.
-    pub fn new(rt: HostRuntime, start: Start) -> RealPacer
+    pub fn new(host: HostRuntime, start: Start) -> RealPacer<R>
         ensures none { result ≡ 0 }
     {
         RealPacer {
-            rt,
+            host,
             start,
             pauses: 0,
-            follower: None,
+            pump: None,
         }
     }
 
-    /// Creates a pacer of a job that made no pause yet. It follows the clock of the recording that
-    /// a store plays.
-    pub fn following(rt: HostRuntime, start: Start, progress: Arc<Progress>) -> RealPacer
+    /// Creates a pacer of a pump that made no pause yet. It follows what the pump's store reports to
+    /// `progress`, and waits for arrivals at a place of its own.
+    pub fn following(
+        host: HostRuntime,
+        rt: R,
+        start: Start,
+        progress: Arc<Progress>,
+        arrivals: Arc<Arrivals>,
+        place: usize,
+    ) -> RealPacer<R>
         ensures none { result ≡ 0 }
     {
         RealPacer {
-            rt,
+            host,
             start,
             pauses: 0,
-            follower: Some(Follower {
-                progress,
-                anchor: None,
-                pieces: 0,
+            pump: Some(PumpPauses {
+                follower: Follower {
+                    progress,
+                    anchor: None,
+                    pieces: 0,
+                },
+                lull: Lull::new(rt, arrivals, place),
             }),
-        }
-    }
-
-    // Returns the length of the next pause, in microseconds.
-    fn length(&mut self) -> u64
-        ensures pauses { self.new ≡ self.old }
-    {
-        match &mut self.follower {
-            Some(follower) => follower.pause(&self.rt),
-            None => PAUSE,
         }
     }
 }
 
-impl Pacer for RealPacer {
+impl<R: Wait + Drop> Pacer for RealPacer<R> {
     ghost pauses = { λ p. p };
 
     fn pause(&mut self) {
-        self.start.step(&self.rt);
-        let micros = self.length();
-        thread::sleep(&self.rt, Duration::from_micros(micros));
+        self.start.step(&self.host);
+        match &mut self.pump {
+            Some(pump) => pump.pause(&self.host),
+            None => thread::sleep(&self.host, Duration::from_micros(PAUSE)),
+        }
         self.pauses = self.pauses.saturating_add(1);
     }
 }

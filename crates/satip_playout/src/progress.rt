@@ -1,4 +1,4 @@
-//! The progress of a recording by its own clock, which its reader reports to its pump's pacer.
+//! The progress of a recording, which its reader reports to its pump's pacer.
 
 use std::sync::atomic::{AtomicU64, Ordering};
 
@@ -18,22 +18,30 @@ pub(crate) struct Place {
 /// so one thread does both.
 #[derive(Drop)]
 pub struct Progress {
+    by_clock: bool,
     pieces: AtomicU64,
     run: AtomicU64,
     micros: AtomicU64,
 }
 
 impl Progress {
-    /// Creates the progress of a recording of which nothing was read.
-    pub fn new() -> Progress {
+    /// Creates the progress of a recording of which nothing was read. Its places are reported if
+    /// they are told `by_clock`, the recording's own; else only that something was read.
+    pub fn new(by_clock: bool) -> Progress {
         Progress {
+            by_clock,
             pieces: AtomicU64::new(0),
             run: AtomicU64::new(0),
             micros: AtomicU64::new(NONE),
         }
     }
 
-    /// Returns the count of reported places.
+    /// Returns whether the recording's clock is to be read.
+    pub(crate) fn is_by_clock(&self) -> bool {
+        self.by_clock
+    }
+
+    /// Returns the count of reports.
     pub(crate) fn pieces(&self) -> u64 {
         self.pieces.load(Ordering::SeqCst)
     }

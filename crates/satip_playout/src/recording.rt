@@ -96,7 +96,7 @@ fn open_regular(rt: &HostRuntime, name: &Text) -> Result<File, RecordingFault> {
 pub struct Playing {
     /// Whether a recording starts again at its end.
     pub repeats: bool,
-    /// The progress to which a recording reports, if its clock counts.
+    /// The progress to which a recording reports, if somebody follows it.
     pub progress: Option<Arc<Progress>>,
 }
 
@@ -114,7 +114,10 @@ impl Playing {
     }
 
     fn has_clock(&self) -> bool {
-        self.progress.is_some()
+        match &self.progress {
+            Some(progress) => progress.is_by_clock(),
+            None => false,
+        }
     }
 
     fn tell(&self, micros: Option<u64>) {

@@ -18,31 +18,24 @@ use std::io::{ErrorKind, Read};
 use std::marker::Model;
 use std::net::Shutdown;
 
-// The length of one wait for a client, in milliseconds.
-const CLIENT_WAIT_MS: i32 = 50;
-
-// The length of one wait for a dialed server, in milliseconds.
-const SERVER_WAIT_MS: i32 = 1;
-
 // The time for which a closing connection waits for the client's end, in milliseconds.
 const LAST_WAIT_MS: u64 = 500;
 
 // The most pieces of input that a closing connection drops.
 const LAST_READS: u32 = 65536;
 
-// A non-blocking stream, and the length of one wait for input in milliseconds.
+// A non-blocking stream.
 #[derive(Drop)]
 struct Socket {
     stream: TcpStream,
-    wait_ms: i32,
 }
 
 impl Socket {
-    // Waits for input, and reads it.
-    fn read(&mut self, buf: &mut [u8]) -> io::Result<usize>
+    // Waits up to `wait_ms` milliseconds for input, and reads it.
+    fn read(&mut self, wait_ms: i32, buf: &mut [u8]) -> io::Result<usize>
         ensures within { ReadsAtMost result buf.new }
     {
-        if !has_input(&self.stream, self.wait_ms) {
+        if !has_input(&self.stream, wait_ms) {
             return Err(io::Error::from(ErrorKind::WouldBlock));
         }
         self.stream.read(buf)
@@ -72,8 +65,9 @@ impl Socket {
 
 /// A TCP connection to a client, or to a server that was dialed.
 ///
-/// A receive from a client waits up to 50 ms for bytes, and is idle if none came. It fails if the
-/// client is silent for too long:
+/// A receive from a client waits up to 50 ms for bytes, and is idle if none came. After 20 such waits
+/// in a row, between which nothing was sent, it waits up to a second, but for an HTTP client that
+/// was sent something. A byte ends each wait. A receive fails if the client is silent for too long:
 /// - longer than the doors' timeout, over RTSP, or over HTTP before anything was sent to it;
 /// - longer than 2 s, if the client has sent nothing yet and others wait at the doors. An HTTP
 /// client that was sent something is exempt.
@@ -115,7 +109,7 @@ impl RealConn {
     pub(crate) fn open(stream: TcpStream, silence: Silence) -> RealConn
         ensures fresh { result ≡ fresh_line }
     {
-        RealConn::over(stream, CLIENT_WAIT_MS, Patience::Limited(silence))
+        RealConn::over(stream, Patience::Limited(silence))
     }
 
     /// Connects to a server, which has up to 10 s to accept. Returns the error of a refusal or
@@ -124,15 +118,15 @@ impl RealConn {
         ensures fresh { IfOk result (λ conn. conn ≡ fresh_line) }
     {
         let stream = connect(rt, to)?;
-        Ok(RealConn::over(stream, SERVER_WAIT_MS, Patience::Endless))
+        Ok(RealConn::over(stream, Patience::Endless))
     }
 
-    fn over(stream: TcpStream, wait_ms: i32, patience: Patience) -> RealConn
+    fn over(stream: TcpStream, patience: Patience) -> RealConn
         ensures fresh { result ≡ fresh_line }
     {
         prepare(&stream);
         RealConn {
-            socket: Socket { stream, wait_ms },
+            socket: Socket { stream },
             patience,
             ended: false,
             idles: 0,
@@ -146,7 +140,7 @@ impl RealConn {
         ensures within { ReadsAtMost result buf.new }
         ensures same { self.new ≡ self.old }
     {
-        match self.socket.read(buf) {
+        match self.socket.read(self.patience.wait_ms(), buf) {
             Ok(count) => {
                 self.patience.hear();
                 Ok(count)

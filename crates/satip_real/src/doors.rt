@@ -30,7 +30,8 @@ const LOOKS: u32 = 64;
 /// ENOTSOCK of accept(2)).
 ///
 /// A connection from which nothing can be read but its end is dropped. One that is handed back is
-/// closed. Each look is a step of the worker.
+/// closed. Each look is a step of the worker. The end and each fault count as an arrival, since the
+/// server may stop after them.
 #[derive(Drop)]
 pub struct RealDoors {
     rt: HostRuntime,
@@ -159,6 +160,7 @@ impl Doors for RealDoors {
         }
         if self.limit != 0 && self.count >= self.limit as u64 {
             self.ended = true;
+            self.listeners.arrivals.add();
             return Door::End;
         }
         match welcome(self.rt, &self.listeners, self.timeout_s) {
@@ -178,6 +180,7 @@ impl Doors for RealDoors {
                          one connection less is served at a time)"
                     ),
                 );
+                self.listeners.arrivals.add();
                 self.faults = self.faults.saturating_add(1);
                 Door::Failed
             }

@@ -6,11 +6,12 @@ use crate::readiness::have_input;
 use libc::net as c;
 use mio::net::{TcpListener, TcpStream};
 use satip_base::{Address, Peer};
-use satip_host::Throttle;
+use satip_host::{Arrivals, Throttle};
 use satip_world::DoorKind;
 use std::io;
 use std::net::Net;
 use std::os::fd::AsRawFd;
+use std::sync::Arc;
 
 /// The listeners for RTSP and for HTTP, which all doors of the server share.
 #[derive(Drop)]
@@ -18,6 +19,7 @@ pub struct Listeners {
     rtsp: TcpListener,
     http: TcpListener,
     pub(crate) shortages: Throttle,
+    pub(crate) arrivals: Arc<Arrivals>,
 }
 
 /// Why there are no listeners: an address that isn't the host's, or a port that is in use or
@@ -58,13 +60,15 @@ fn listen(net: &impl Net, ip: u32, port: u16, backlog: u16) -> io::Result<TcpLis
 
 impl Listeners {
     /// Binds both listeners at an IPv4 address. Port 0 lets the system choose one. At each
-    /// listener, about `backlog` connections wait that aren't accepted yet.
+    /// listener, about `backlog` connections wait that aren't accepted yet. What comes from clients
+    /// is counted in `arrivals`, and so is the end of doors.
     pub fn bind(
         net: &impl Net,
         ip: u32,
         rtsp_port: u16,
         http_port: u16,
         backlog: u16,
+        arrivals: Arc<Arrivals>,
     ) -> Result<Listeners, BindFault> {
         let rtsp = match listen(net, ip, rtsp_port, backlog) {
             Ok(rtsp) => rtsp,
@@ -75,6 +79,7 @@ impl Listeners {
                 rtsp,
                 http,
                 shortages: Throttle::new(),
+                arrivals,
             }),
             Err(error) => Err(BindFault::Http(error)),
         }

@@ -9,6 +9,15 @@ use std::sync::Arc;
 // milliseconds.
 const FIRST_BYTE_MS: u64 = 2000;
 
+// The length of one wait for a client that has sent and received nothing for a while, and the length
+// of one before. An HTTP client that was sent something always gets the second.
+const QUIET_WAIT_MS: i32 = 1000;
+
+const BUSY_WAIT_MS: i32 = 50;
+
+// The count of waits in a row without a byte, after which a client is quiet.
+const QUIET: u32 = 20;
+
 /// The time for which a client has sent nothing, and its limit.
 #[derive(Drop)]
 pub(crate) struct Silence {
@@ -18,6 +27,8 @@ pub(crate) struct Silence {
     listeners: Arc<Listeners>,
     was_heard: bool,
     was_answered: bool,
+    // Waits without a byte since one was last received or sent.
+    waits: u32,
 }
 
 impl Silence {
@@ -35,18 +46,32 @@ impl Silence {
             listeners,
             was_heard: false,
             was_answered: false,
+            waits: 0,
         }
     }
 
     // Notes that bytes were received.
     fn hear(&mut self) {
         self.was_heard = true;
+        self.waits = 0;
         self.watch.restart();
+        self.listeners.arrivals.add();
     }
 
     // Notes that bytes were sent.
     fn answer(&mut self) {
         self.was_answered = true;
+        self.waits = 0;
+    }
+
+    // Returns the length of the next wait in milliseconds, and counts it.
+    fn wait_ms(&mut self) -> i32 {
+        let reads_stream = self.kind == DoorKind::Http && self.was_answered;
+        if reads_stream || self.waits < QUIET {
+            self.waits = self.waits.saturating_add(1);
+            return BUSY_WAIT_MS;
+        }
+        QUIET_WAIT_MS
     }
 
     // Returns whether the client is given up: it was silent for longer than its limit, or it sent
@@ -64,7 +89,10 @@ impl Silence {
     }
 }
 
-/// The limit of the other end's silence.
+// The length of one wait for a dialed server, in milliseconds.
+const SERVER_WAIT_MS: i32 = 1;
+
+/// The limit of the other end's silence, and the length of one wait for it.
 #[derive(Drop)]
 pub(crate) enum Patience {
     /// The limit of a client.
@@ -74,6 +102,14 @@ pub(crate) enum Patience {
 }
 
 impl Patience {
+    /// Returns the length of the next wait for input, in milliseconds.
+    pub(crate) fn wait_ms(&mut self) -> i32 {
+        match self {
+            Patience::Limited(silence) => silence.wait_ms(),
+            Patience::Endless => SERVER_WAIT_MS,
+        }
+    }
+
     /// Notes that bytes were received.
     pub(crate) fn hear(&mut self) {
         match self {

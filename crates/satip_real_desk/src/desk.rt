@@ -121,7 +121,7 @@ impl<R: Wait + Copy + Drop + Send> Devices for RealDesk<R> {
 
     type Outlet = RealOutlet<R>;
 
-    type Pacer = RealPacer;
+    type Pacer = RealPacer<R>;
 
     type Store = RealStore;
 

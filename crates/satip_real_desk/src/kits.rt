@@ -17,14 +17,14 @@ use std::sync::Wait;
 
 /// The kits of jobs over the system. Their doors share two listeners, their outlets one table of
 /// UDP sockets.
-pub type RealJobs<R> = JobKits<RealDoors, RealOutlet<R>, RealPacer, RealStore, RealClock>;
+pub type RealJobs<R> = JobKits<RealDoors, RealOutlet<R>, RealPacer<R>, RealStore, RealClock>;
 
 fn worker_kit<R: Wait + Drop>(
     host: HostRuntime,
     rt: R,
     shared: &Shared,
     accepts: u32,
-) -> Result<WorkerKit<RealDoors, RealOutlet<R>, RealPacer>, KitsFault>
+) -> Result<WorkerKit<RealDoors, RealOutlet<R>, RealPacer<R>>, KitsFault>
     ensures unused { IfOk result (λ kit. IsUnusedWorker accepts kit) }
 {
     let Ok(key) = read_key(&host) else {
@@ -38,17 +38,18 @@ fn worker_kit<R: Wait + Drop>(
     })
 }
 
-fn pump_kit<R: Wait + Drop>(
+fn pump_kit<R: Wait + Copy + Drop>(
     host: HostRuntime,
     rt: R,
     shared: &Shared,
-) -> Result<PumpKit<RealStore, RealOutlet<R>, RealPacer>, KitsFault>
+    place: usize,
+) -> Result<PumpKit<RealStore, RealOutlet<R>, RealPacer<R>>, KitsFault>
     ensures unused { IfOk result (λ kit. IsUnusedPump kit) }
 {
     let progress = shared.progress(host.alloc())?;
-    let pacer = shared.pump_pacer(host, &progress)?;
+    let pacer = shared.pump_pacer(host, rt, &progress, place)?;
     Ok(PumpKit {
-        store: shared.store(host, progress)?,
+        store: shared.store(host, Some(progress))?,
         outlet: shared.outlet(rt)?,
         pacer,
     })
@@ -58,7 +59,7 @@ fn tick_kit<R: Wait + Drop>(
     host: HostRuntime,
     rt: R,
     shared: &Shared,
-) -> Result<TickKit<RealClock, RealOutlet<R>, RealPacer>, KitsFault>
+) -> Result<TickKit<RealClock, RealOutlet<R>, RealPacer<R>>, KitsFault>
     ensures unused { IfOk result (λ kit. IsUnusedTick kit) }
 {
     Ok(TickKit {
@@ -75,7 +76,7 @@ fn worker_kits<R: Wait + Copy + Drop>(
     shared: &Shared,
     count: u16,
     accepts: u32,
-) -> Result<Vec<WorkerKit<RealDoors, RealOutlet<R>, RealPacer>>, KitsFault>
+) -> Result<Vec<WorkerKit<RealDoors, RealOutlet<R>, RealPacer<R>>>, KitsFault>
     ensures count { IfOk result (λ kits. length kits.items ≡ count) }
     ensures unused { IfOk result (λ kits. All (IsUnusedWorker accepts) kits.items) }
 {
@@ -92,13 +93,13 @@ fn pump_kits<R: Wait + Copy + Drop>(
     alloc: Global,
     shared: &Shared,
     count: usize,
-) -> Result<Vec<PumpKit<RealStore, RealOutlet<R>, RealPacer>>, KitsFault>
+) -> Result<Vec<PumpKit<RealStore, RealOutlet<R>, RealPacer<R>>>, KitsFault>
     ensures count { IfOk result (λ kits. length kits.items ≡ count) }
     ensures unused { IfOk result (λ kits. All IsUnusedPump kits.items) }
 {
     let mut kits = Vec::new(alloc);
-    for _ in 0..count {
-        kits.push(pump_kit(host, rt, shared)?)?;
+    for place in 0..count {
+        kits.push(pump_kit(host, rt, shared, place)?)?;
     }
     Ok(kits)
 }

@@ -5,7 +5,7 @@ ghost use Rattle.std.specs.Prelude.{◌≡◌, IfOk};
 use crate::fault::KitsFault;
 use crate::settings::Settings;
 use satip_base::Text;
-use satip_host::{ClockStart, RealClock, Start, Starts};
+use satip_host::{Arrivals, ClockStart, RealClock, Start, Starts};
 use satip_playout::{Playing, Progress, RealPacer, RealStore};
 use satip_real::{Listeners, RealDoors, RealOutlet, SharedSocket};
 use satip_tune::Config;
@@ -13,7 +13,7 @@ use std::alloc::Global;
 use std::sync::{Arc, Wait};
 
 /// The listeners and a client's timeout, the UDP sockets, the names of the recordings and their
-/// settings, the start of the clocks, and the count of jobs that have begun.
+/// settings, the start of the clocks, the count of jobs that have begun, and that of arrivals.
 #[derive(Drop)]
 pub(crate) struct Shared {
     listeners: Arc<Listeners>,
@@ -23,6 +23,7 @@ pub(crate) struct Shared {
     pub(crate) settings: Settings,
     clock_start: ClockStart,
     starts: Arc<Starts>,
+    arrivals: Arc<Arrivals>,
 }
 
 impl Shared {
@@ -39,12 +40,15 @@ impl Shared {
         config: &Config,
     ) -> Result<Shared, KitsFault> {
         let settings = Settings::read(host)?;
+        let arrivals = Arrivals::with_places(alloc, config.fronts.len())?;
+        let arrivals = Arc::new(alloc, arrivals)?;
         let listeners = Listeners::bind(
             host,
             config.address,
             config.rtsp_port,
             config.http_port,
             config.workers,
+            Arc::try_clone(&arrivals)?,
         )?;
         let socket = match SharedSocket::bind(*host, config.address) {
             Ok(socket) => socket,
@@ -58,6 +62,7 @@ impl Shared {
             settings,
             clock_start: ClockStart::read(host),
             starts: Arc::new(alloc, Starts::expect(job_count(config)))?,
+            arrivals,
         })
     }
 
@@ -84,16 +89,12 @@ impl Shared {
         RealClock::new(host, self.clock_start)
     }
 
-    /// Makes the state that the store and the pacer of a pump share, if recordings play at their
-    /// own rate.
-    pub(crate) fn progress(&self, alloc: Global) -> Result<Option<Arc<Progress>>, KitsFault> {
-        if !self.settings.paces {
-            return Ok(None);
-        }
-        Ok(Some(Arc::new(alloc, Progress::new())?))
+    /// Makes the state that the store and the pacer of a pump share.
+    pub(crate) fn progress(&self, alloc: Global) -> Result<Arc<Progress>, KitsFault> {
+        Ok(Arc::new(alloc, Progress::new(self.settings.paces))?)
     }
 
-    /// Makes a store of the recordings, which report their clocks to `progress` if there is one.
+    /// Makes a store of the recordings, which report to `progress` if there is one.
     pub(crate) fn store(
         &self,
         host: HostRuntime,
@@ -109,29 +110,36 @@ impl Shared {
     }
 
     /// Makes the pacer of a worker, whose first step is its doors.
-    pub(crate) fn worker_pacer(&self, host: HostRuntime) -> Result<RealPacer, KitsFault>
+    pub(crate) fn worker_pacer<R: Wait + Drop>(
+        &self,
+        host: HostRuntime,
+    ) -> Result<RealPacer<R>, KitsFault>
         ensures none { IfOk result (λ pacer. pacer ≡ 0) }
     {
         Ok(RealPacer::new(host, Start::watching(&self.starts)?))
     }
 
-    /// Makes the pacer of a pump, which follows a recording's clock if there is a `progress`.
-    pub(crate) fn pump_pacer(
+    /// Makes the pacer of a pump, which follows what its store reports to `progress`. `place` is that of
+    /// the pump among all pumps, from 0.
+    pub(crate) fn pump_pacer<R: Wait + Drop>(
         &self,
         host: HostRuntime,
-        progress: &Option<Arc<Progress>>,
-    ) -> Result<RealPacer, KitsFault>
+        rt: R,
+        progress: &Arc<Progress>,
+        place: usize,
+    ) -> Result<RealPacer<R>, KitsFault>
         ensures none { IfOk result (λ pacer. pacer ≡ 0) }
     {
         let start = Start::counting(&self.starts)?;
-        match progress {
-            Some(progress) => Ok(RealPacer::following(host, start, Arc::try_clone(progress)?)),
-            None => Ok(RealPacer::new(host, start)),
-        }
+        let (progress, arrivals) = (Arc::try_clone(progress)?, Arc::try_clone(&self.arrivals)?);
+        Ok(RealPacer::following(host, rt, start, progress, arrivals, place))
     }
 
     /// Makes the pacer of the ticker.
-    pub(crate) fn tick_pacer(&self, host: HostRuntime) -> Result<RealPacer, KitsFault>
+    pub(crate) fn tick_pacer<R: Wait + Drop>(
+        &self,
+        host: HostRuntime,
+    ) -> Result<RealPacer<R>, KitsFault>
         ensures none { IfOk result (λ pacer. pacer ≡ 0) }
     {
         Ok(RealPacer::new(host, Start::counting(&self.starts)?))
