@@ -74,7 +74,8 @@ const ROWS: &[Row] = &[
         &[],
         RecordEnd::BadReply,
     ),
-    // Nothing is received after a whole refusal or a bad reply, so no fault of a later receive counts.
+    // Nothing is received after a whole refusal or a bad reply, so no fault of a later receive
+    // counts.
     (
         &[(b"RTSP/1.0 503 No\r\nCSeq: 1\r\n\r\n", 1)],
         &[2],

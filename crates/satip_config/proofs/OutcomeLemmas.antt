@@ -1,5 +1,5 @@
 -- The outcome of a status.
-use Rattle.std.proofs.Common.{◌≡◌, ℕ, refl, arith}
+use Rattle.std.proofs.Common.{◌≡◌, refl, arith}
 use Rattle.satip_config.specs.declared.outcome.Outcome.{Outcome}
 use Rattle.satip_config.specs.declared.outcome.Outcome.TheVariants.{Done, InputFault, OutputFault, TooLong, OutOfMemory}
 use Rattle.satip_config.specs.Outcomes.{status_of}

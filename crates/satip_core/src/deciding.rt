@@ -30,7 +30,7 @@ use satip_state::{Parts, ask_pids, changed_tuning, to_set};
 use satip_table::Stream;
 use satip_tune::Tuning;
 
-/// What an accepted request names and changes: its session, and for SETUP and PLAY the tuning to set.
+/// What an accepted request names and changes: its session, and the tuning that SETUP or PLAY sets.
 #[derive(Clone, Copy, Debug, PartialEq, Eq)]
 pub struct Accepted {
     pub session: Option<Party>,

@@ -129,7 +129,8 @@ pub trait Desk: Devices {
         ensures handed { (desk self.new).handed ≡ (desk self.old).handed }
         ensures sink { IfOk result (λ sink. Self.Journal.drain sink ≡ fresh_drain) }
         ensures of_job { IfOk result (λ sink. Self.Journal.job sink ≡ job) }
-        ensures journaled { OnOk result ((desk self.new).journaled ≡ (desk self.old).journaled ++ job ∷ []) }
+        ensures journaled { OnOk result ((desk self.new).journaled
+            ≡ (desk self.old).journaled ++ job ∷ []) }
         ensures kept { OnErr result ((desk self.new).journaled ≡ (desk self.old).journaled) }
         ensures no_fault { OnOk result ((desk self.new).faults ≡ (desk self.old).faults) }
         ensures failed { OnErr result (Rises (desk self.old).faults (desk self.new).faults) };

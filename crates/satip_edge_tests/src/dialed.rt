@@ -15,8 +15,8 @@ use std::net::{SocketAddr, TcpStream, UdpSocket};
 use std::process::Abort;
 use std::sync::Wait;
 
-// Asks a server that is silent so far. Asserts that nothing was received before, and that the server
-// reads the request.
+// Asks a server that is silent so far. Asserts that nothing was received before, and that the
+// server reads the request.
 fn check_asked(rt: &impl Abort, conn: &mut RealConn, server: &mut TcpStream) {
     let mut request = [0; 5];
     check(rt, "before", conn.receive(&mut [0; 16]), Received::Idle);

@@ -138,7 +138,8 @@ fn read_in_pieces(stream: TcpStream, wanted: usize) -> usize {
     count
 }
 
-// Sends 16 megabytes to a client that reads them in another thread. Returns the number that it read.
+// Sends 16 megabytes to a client that reads them in another thread. Returns the number that it
+// read.
 fn send_much<R: Threads + Wait + Abort>(
     rt: &R,
     alloc: Global,

@@ -194,8 +194,8 @@ fn settings(name: &str, value: &str) -> Option<(bool, bool)> {
     Some((settings.paces, settings.repeats))
 }
 
-// A row's name, a variable and its value; whether the server follows a recording's clock, and whether
-// it repeats recordings.
+// A row's name, a variable and its value; whether the server follows a recording's clock, and
+// whether it repeats recordings.
 const SETTINGS: &[(&str, &str, &str, Option<(bool, bool)>)] = &[
     ("pace", "SATIP_PACE", "recording", Some((true, false))),
     ("no pace", "SATIP_PACE", "", Some((false, false))),

@@ -43,8 +43,8 @@ impl Unhurried for SlowReader {
     }
 }
 
-// 5 bytes, each after this number of waits, which end early or not; whether all are taken, the number
-// of those that are, and the number of rests that follow waits that brought nothing.
+// 5 bytes, each after this number of waits, which end early or not; whether all are taken, the
+// number of those that are, and the number of rests that follow waits that brought nothing.
 const ROWS: &[(&str, u32, bool, bool, u8, u32)] = &[
     ("1 wait", 1, false, true, 5, 0),
     ("150 waits", 150, false, true, 5, 0),

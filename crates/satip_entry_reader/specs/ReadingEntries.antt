@@ -1,9 +1,8 @@
 -- Reading whole entries: an event, an answer, a reply and datagrams.
-use Rattle.std.specs.Prelude.{◌≡◌, ℕ, zero, suc, ◌-◌, ◌≤◌, ◌<◌, ◌^◌, List, [], ◌∷◌, length, nat_le, if◌then◌else◌, Option, Some, None}
+use Rattle.std.specs.Prelude.{◌≡◌, ℕ, zero, suc, ◌-◌, List, [], ◌∷◌, length, nat_le, if◌then◌else◌, Option, Some, None}
 use Rattle.satip_base.specs.declared.network.Address.{Address}
 use Rattle.satip_base.specs.declared.limits.TheConstants.{REPLY_BYTES, EVENT_BYTES, EVENT_DATAGRAMS}
-use Rattle.satip_base.specs.Output.{Datagram, Output, datagram_bytes}
-use Rattle.satip_base.specs.Lists.{Each}
+use Rattle.satip_base.specs.Output.{Datagram, Output}
 use Rattle.satip_plain.specs.declared.events.Event.{Event}
 use Rattle.satip_plain.specs.declared.answers.Answer.{Answer}
 pub use Rattle.satip_entry_writer.specs.Entries.{Entry, IsEntry, IsTarget, entry_text}

@@ -1,5 +1,5 @@
 -- Lanes by their numbers.
-use Rattle.std.proofs.Common.{ℕ, ◌≡◌, ◌<◌, ◌≤◌, zero, suc, Bool, true, false, cond, ◌||◌, List, [], ◌∷◌, length, take, set, get_or, Some, None, refl, sym, ap, subst, ◌∙◌, arith, eq-eqb, vec_len, vec_capacity, All, ◌+◌}
+use Rattle.std.proofs.Common.{ℕ, ◌≡◌, ◌<◌, ◌≤◌, zero, suc, true, false, cond, List, [], ◌∷◌, length, take, set, get_or, Some, None, refl, sym, ap, subst, ◌∙◌, arith, eq-eqb, vec_len, vec_capacity, All, ◌+◌}
 use Rattle.std.proofs.lemmas.List.{get_or_default, length-set}
 use Rattle.std.specs.List.{list_any, remove}
 use Rattle.std.proofs.lemmas.Bool.{or_parts}

@@ -1,18 +1,17 @@
 -- The entries of a tunnel as calls of its lanes, and the numbers that connections are given.
-use Rattle.std.proofs.Common.{◌≡◌, ℕ, Bool, true, false, List, [], ◌∷◌, ◌++◌, append-nil, append_assoc, map, Option, None, Some, option_to_list, refl, sym, ap, subst, ◌∙◌}
+use Rattle.std.proofs.Common.{◌≡◌, ℕ, Bool, true, false, List, [], ◌∷◌, ◌++◌, append-nil, append_assoc, Option, None, Some, option_to_list, refl, sym, ap, subst, ◌∙◌}
 use Rattle.satip_base.specs.Output.{Datagram, Output}
 use Rattle.satip_interleave.specs.declared.lane.Drained.{Drained}
 use Rattle.satip_interleave.specs.declared.lane.Drained.TheVariants.{Frames as DrainedFrames, Empty as DrainedEmpty, Broken as DrainedBroken, Gone as DrainedGone}
 use Rattle.satip_interleave.specs.Calls.{Call, Enter as Entering, Put, Drain as Draining, Leave as Leaving, after, called, number_of, numbers_given, IsRising, NumbersRise}
 use Rattle.satip_interleave.specs.Lanes.{PlainLanes, drain_answer, entered_number, is_held, lane_of, no_lanes, put_to}
-use Rattle.satip_plain.specs.declared.setting.Setting.{Setting}
 use Rattle.satip_interleave.specs.declared.events.TunnelEvent.{TunnelEvent}
 use Rattle.satip_interleave.specs.declared.events.TunnelEvent.TheVariants.{Inner, Enter, Drain, Leave}
 use Rattle.satip_interleave.specs.declared.events.TunnelAnswer.{TunnelAnswer}
 use Rattle.satip_interleave.specs.declared.events.TunnelAnswer.TheVariants.{Inner as InnerAnswer, Lane, Full, Frames, Empty, Broken, Gone, Left}
 use Rattle.satip_interleave.specs.Tunnels.{drain_told, lane_told, left_told, moved_by, put_all}
 use Rattle.satip_interleave.specs.Answers.{IsAnswered}
-use Rattle.satip_interleave.specs.Histories.{LanesFrom, TunnelItem, TunnelLegal, moved}
+use Rattle.satip_interleave.specs.Histories.{LanesFrom, TunnelItem, moved}
 use Rattle.satip_interleave.specs.Laws.{LaneNumbersRise, number_in, numbers_in}
 
 -- each datagram as a call of the lanes

@@ -92,7 +92,8 @@ impl<'a, R: Wait + Sync, K: JobSink> Service for Journal<'a, R, K> {
     ghost same_then = { λ r s t a b. same_journal_then K.tells
         (kept r.caller.server.now r.caller.pass r.number (K.job r.sink) (K.drain r.sink) r.failed)
         (kept s.caller.server.now s.caller.pass s.number (K.job s.sink) (K.drain s.sink) s.failed)
-        (kept t.caller.server.now t.caller.pass t.number (K.job t.sink) (K.drain t.sink) t.failed) a b };
+        (kept t.caller.server.now t.caller.pass t.number (K.job t.sink) (K.drain t.sink) t.failed)
+        a b };
 
     ghost same_setting = { λ s t a. same_caller_setting s.caller.server.now s.caller.pass
         t.caller.server.now t.caller.pass a.caller };

@@ -89,7 +89,8 @@ fn run_kits<R: Threads + Wait + Sync, K: Desk>(
     ensures begun { MatchOption result.last
         (IsUnusedEnd (K.desk desk.old).faults (K.desk desk.new).faults result.end)
         (λ _. IsEndOfRun result.end) }
-    ensures no_fault { IfSome result.last (λ _. (K.desk desk.new).faults ≡ (K.desk desk.old).faults) }
+    ensures no_fault { IfSome result.last
+        (λ _. (K.desk desk.new).faults ≡ (K.desk desk.old).faults) }
     ensures journaled { (K.desk desk.new).journaled
         ≡ (K.desk desk.old).journaled ++ first_jobs (length result.journals.items) }
     ensures jobs { map K.Journal.job result.journals.items
@@ -161,7 +162,8 @@ fn run_source<R: Threads + Wait + Sync, K: Desk>(
         → (K.Config.feed source.new).faults ≡ (K.Config.feed source.old).faults }
     ensures limit { (K.Config.feed source.new).taken
         ≤ (K.Config.feed source.old).taken + configuration_limit + 1 }
-    ensures no_fault { IfSome result.last (λ _. (K.desk desk.new).faults ≡ (K.desk desk.old).faults) }
+    ensures no_fault { IfSome result.last
+        (λ _. (K.desk desk.new).faults ≡ (K.desk desk.old).faults) }
     ensures settled { K.Config.tells → (Rose (K.Config.feed source.old).faults
         (K.Config.feed source.new).faults → ⊥) → IsJournalOf (K.Config.feed source.old).left
         result.end }

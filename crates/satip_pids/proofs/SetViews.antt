@@ -1,9 +1,7 @@
 -- What the words and the count of a set stand for.
-use Rattle.std.proofs.Common.{◌≡◌, ℕ, ◌<◌, ◌≤◌, ◌↔◌, ◌==◌, ◌||◌, ◌&&◌, not, inl, inr, Bool, true, false, cond, List, [], ◌∷◌, length, replicate, Result, Ok, Err, refl, sym, ap, ◌∙◌, subst, codes, arith}
-use Rattle.std.specs.Int.{bit_at}
+use Rattle.std.proofs.Common.{◌≡◌, ℕ, ◌<◌, ◌≤◌, ◌||◌, ◌&&◌, not, inl, inr, cond, List, [], length, replicate, Ok, Err, refl, sym, ap, ◌∙◌, subst, codes, arith}
 use Rattle.std.proofs.lemmas.Bool.{ne_eqb, eq-eqb, le-leb, lt-leb}
-use Rattle.satip_pids.specs.declared.fault.PidFault.{PidFault}
-use Rattle.satip_pids.specs.declared.fault.PidFault.TheVariants.{TooMany, UnderAll}
+use Rattle.satip_pids.specs.declared.fault.PidFault.TheVariants.{TooMany}
 use Rattle.satip_pids.specs.Rising.{has_number, put_all, without}
 use Rattle.satip_pids.specs.Pids.{Pids, Every, Only, IsPidRow, IsPidSet, has_pid, listed, grown, limited, add_pids, remove_pids}
 use Rattle.satip_pids.specs.Bits.{has_bit, members, pids_of, IsListed, IsWhole, IsBits}

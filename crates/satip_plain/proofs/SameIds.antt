@@ -1,5 +1,5 @@
 -- Session ids that a test finds the same are the same.
-use Rattle.std.proofs.Common.{◌≡◌, ◌==◌, ◌&&◌, ℕ, true, ap, ◌∙◌}
+use Rattle.std.proofs.Common.{◌≡◌, ◌==◌, ℕ, true, ap, ◌∙◌}
 use Rattle.std.proofs.lemmas.Bool.{and_parts, eqb-true}
 use Rattle.satip_plain.specs.Types.{SessionId}
 use Rattle.satip_plain.specs.State.{same_id}

@@ -1,5 +1,5 @@
 -- In a legal history each answer is of its event's kind.
-use Rattle.std.proofs.Common.{◌≡◌, ◌∙◌, ℕ, Bool, true, false, List, [], ◌∷◌, ◌++◌, Option, Some, None, refl, ap, sym, subst}
+use Rattle.std.proofs.Common.{◌≡◌, ℕ, false, List, [], ◌∷◌, ◌++◌, Option, Some, None, refl, sym, subst}
 use Rattle.std.specs.Option.{option_map_or}
 use Rattle.std.specs.Prelude.{option_map}
 use Rattle.satip_base.specs.Output.{Output}
@@ -23,7 +23,7 @@ use Rattle.satip_plain.specs.Types.{Config, Peer, Draw, Request, HttpRequest, Se
 use Rattle.satip_plain.specs.State.{Session, State, held, http_session}
 use Rattle.satip_plain.specs.Sending.{settle}
 use Rattle.satip_plain.specs.Refusals.{Refused, decide, decide_get, first_given, of_message, session_named}
-use Rattle.satip_plain.specs.Steps.{Outcome, accepted, closes as is_closing, done_by, end_where, heard_by, is_session, on_close, on_get, on_pull, on_request, outcome, play_of, pull_some, refuse, start, step, teardown_of}
+use Rattle.satip_plain.specs.Steps.{accepted, closes as is_closing, done_by, end_where, heard_by, is_session, on_close, on_get, on_pull, on_request, outcome, play_of, pull_some, refuse, start, step, teardown_of}
 use Rattle.satip_plain.specs.Histories.{Item, Legal, LegalFrom, opening}
 use Rattle.satip_plain.specs.Suits.{Suits, closes}
 

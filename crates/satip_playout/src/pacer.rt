@@ -153,8 +153,8 @@ impl<R: Wait + Drop> RealPacer<R> {
         }
     }
 
-    /// Creates a pacer of a pump that made no pause yet. It follows what the pump's store reports to
-    /// `progress`, and waits for arrivals at a place of its own.
+    /// Creates a pacer of a pump that made no pause yet. It follows what the pump's store reports
+    /// to `progress`, and waits for arrivals at a place of its own.
     pub fn following(
         host: HostRuntime,
         rt: R,

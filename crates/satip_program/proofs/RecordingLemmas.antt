@@ -1,5 +1,5 @@
 -- The statuses of a recording.
-use Rattle.std.proofs.Common.{◌≡◌, ℕ, ◌≤◌, inl, inr, Some, None, refl, arith}
+use Rattle.std.proofs.Common.{◌≡◌, ℕ, ◌≤◌, inl, inr, Some, refl, arith}
 use Rattle.satip_base.specs.Streams.{Feed, Drain, Rose}
 use Rattle.satip_base.specs.Lists.{Has}
 use Rattle.satip_desk.specs.Streams.{Streams, Tells}

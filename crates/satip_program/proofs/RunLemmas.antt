@@ -1,6 +1,6 @@
 -- The outcome of a command that waits for no client, by its status.
 use Rattle.std.proofs.Common.{◌≡◌, ℕ, ◌+◌, ◌-◌, ◌<◌, ◌≤◌, ◌⊎◌, ◌↔◌, inl, inr, List, [], ◌∷◌, Option, Some, None, IsSome, IsSomeAnd, option_map, refl, arith}
-use Rattle.satip_base.specs.Streams.{Feed, Drain, Rose, PutAll, FailedToPut}
+use Rattle.satip_base.specs.Streams.{Feed, Drain, Rose}
 use Rattle.satip_base.specs.Lists.{Has}
 use Rattle.satip_talk_command.specs.Runs.{input_limit}
 use Rattle.satip_config.specs.Lines.{Says}
@@ -8,7 +8,7 @@ use Rattle.satip_config.specs.Outcomes.{Logs, line_of, status_of}
 use Rattle.satip_config.specs.declared.outcome.Outcome.{Outcome}
 use Rattle.satip_desk.specs.Streams.{Streams, Tells}
 use Rattle.satip_desk.specs.Views.{DeskView}
-use Rattle.satip_program.specs.Commands.{Form, Asked, config_named, recording_in, usage}
+use Rattle.satip_program.specs.Commands.{Form, Asked, config_named, usage}
 use Rattle.satip_program.specs.Ended.{EndedView, ended_alone}
 use Rattle.satip_program.specs.Runs.{AsksOnly, CommandEnds, GivesBack, IsShown, RunEnds, StatusTells}
 

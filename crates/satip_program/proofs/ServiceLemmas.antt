@@ -1,5 +1,5 @@
 -- The outcome of a service, by its status.
-use Rattle.std.proofs.Common.{◌≡◌, ℕ, ◌⊎◌, ◌↔◌, inl, inr, true, false, List, [], ◌∷◌, Option, Some, None, IsSomeAnd, MatchOption, ⊎_elim, refl, arith}
+use Rattle.std.proofs.Common.{◌≡◌, ℕ, ◌⊎◌, ◌↔◌, inl, inr, true, false, List, [], ◌∷◌, Some, None, IsSomeAnd, MatchOption, ⊎_elim, refl, arith}
 use Rattle.satip_base.specs.Streams.{Feed, Drain, Rose}
 use Rattle.satip_base.specs.Lists.{Has}
 use Rattle.satip_world.specs.Counts.{Rises}
@@ -11,7 +11,7 @@ use Rattle.satip_tunnel_serve.specs.Serve.Statuses.{serve_statuses}
 use Rattle.satip_program.specs.Commands.{Asked, Serving, is_journal, is_tunnel}
 use Rattle.satip_program.specs.Ended.{EndedView}
 use Rattle.satip_program.specs.Journaling.{IsOfJournal}
-use Rattle.satip_program.specs.Runs.{AsksOnly, GivesBack, RunEnds, ServiceEnds, StatusTells}
+use Rattle.satip_program.specs.Runs.{GivesBack, RunEnds, ServiceEnds, StatusTells}
 use Rattle.satip_program.proofs.JournalLemmas.{input_of}
 
 -- a service

@@ -3,7 +3,8 @@
 //! - `let NAME = TEXT` gives a text a name, for the lines after it.
 //! - `row NAME` begins a row. No other row, of any file, has its name.
 //! - `words WORD WORD ..`: the words after `satip`, each a text; `''` is the empty word.
-//! - `config NAME FILE`: the desk opens the file under this name. Without it the desk opens nothing.
+//! - `config NAME FILE`: the desk opens the file under this name. Without it the desk opens
+//! nothing.
 //! - `status N`: the exit status that is wanted, if it isn't 0.
 //! - `input`, `output`, `error` and `sent` begin what is read, and what must be written and be sent
 //!   by a client. Each further line that begins with two spaces adds a text and a line feed; the

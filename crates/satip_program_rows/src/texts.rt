@@ -19,8 +19,9 @@ pub(crate) struct Written {
     pub(crate) cut: bool,
 }
 
-/// Writes a text out. `\r`, `\n`, `\t`, `\\`, `\{`, `\}`, `\<`, `\>` and `\xHH` are bytes, `<N*TEXT>`
-/// is TEXT N times, `{TEXT}` is TEXT in lower-case digits, and `$NAME;` is the text of that name.
+/// Writes a text out. `\r`, `\n`, `\t`, `\\`, `\{`, `\}`, `\<`, `\>` and `\xHH` are bytes,
+/// `<N*TEXT>` is TEXT N times, `{TEXT}` is TEXT in lower-case digits, and `$NAME;` is the text of
+/// that name.
 pub(crate) fn write_out(alloc: Global, lets: &[Let], text: &str) -> Result<Written, Fault> {
     let mut writer = Writer {
         alloc,

@@ -1,5 +1,5 @@
 -- Datagrams that are appended one after another, and the room for them.
-use Rattle.std.proofs.Common.{◌≡◌, ℕ, ◌+◌, ◌<◌, ◌≤◌, List, [], ◌∷◌, ◌++◌, length, take, length-append, append_assoc, append-nil, arith, refl, suc, zero, sym, ◌∙◌, ap, subst, Option, Some, None, IsSomeAnd, slice_get, Bool, true, false, ◌&&◌, nat_le}
+use Rattle.std.proofs.Common.{◌≡◌, ℕ, ◌+◌, ◌<◌, ◌≤◌, List, [], ◌∷◌, ◌++◌, length, take, length-append, append_assoc, append-nil, arith, refl, suc, zero, sym, ◌∙◌, ap, subst, Option, Some, None, IsSomeAnd, slice_get, true, nat_le}
 use Rattle.std.proofs.lemmas.Bool.Decides.{nat_tests}
 use Rattle.std.proofs.lemmas.List.{take_more}
 use Rattle.std.proofs.lemmas.List.Sums.{sum_by-append, sum_by-cons}

@@ -1,5 +1,5 @@
 -- How long the phrases of statuses and the bodies of refusals are.
-use Rattle.std.proofs.Common.{ℕ, ◌+◌, ◌<◌, ◌≤◌, ◌==◌, Bool, true, false, cond, List, length, arith, length-append}
+use Rattle.std.proofs.Common.{ℕ, ◌+◌, ◌≤◌, ◌==◌, Bool, true, false, cond, List, length, arith, length-append}
 use Rattle.satip_base.proofs.NumberLemmas.{length-decimal_u16}
 use Rattle.satip_query.specs.Bodies.{body_text, body_part}
 use Rattle.satip_query.specs.Statuses.{phrase_of}

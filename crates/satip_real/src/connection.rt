@@ -8,7 +8,7 @@ use crate::errors::is_passing;
 use crate::options::prepare;
 use crate::readiness::has_input;
 use crate::sending::send_all;
-use crate::silence::{Patience, Silence};
+use crate::silence::Silence;
 use mio::net::TcpStream;
 use satip_base::{Address, Put};
 use satip_host::Stopwatch;
@@ -17,6 +17,9 @@ use std::io;
 use std::io::{ErrorKind, Read};
 use std::marker::Model;
 use std::net::Shutdown;
+
+// The length of one wait for a dialed server, in milliseconds.
+const SERVER_WAIT_MS: i32 = 1;
 
 // The time for which a closing connection waits for the client's end, in milliseconds.
 const LAST_WAIT_MS: u64 = 500;
@@ -65,9 +68,10 @@ impl Socket {
 
 /// A TCP connection to a client, or to a server that was dialed.
 ///
-/// A receive from a client waits up to 50 ms for bytes, and is idle if none came. After 20 such waits
-/// in a row, between which nothing was sent, it waits up to a second, but for an HTTP client that
-/// was sent something. A byte ends each wait. A receive fails if the client is silent for too long:
+/// A receive from a client waits up to 50 ms for bytes, and is idle if none came. After 20 such
+/// waits in a row, between which nothing was sent, it waits up to a second, but for an HTTP client
+/// that was sent something. A byte ends each wait. A receive fails if the client is silent for too
+/// long:
 /// - longer than the doors' timeout, over RTSP, or over HTTP before anything was sent to it;
 /// - longer than 2 s, if the client has sent nothing yet and others wait at the doors. An HTTP
 /// client that was sent something is exempt.
@@ -79,7 +83,8 @@ impl Socket {
 #[derive(Drop)]
 pub struct RealConn {
     socket: Socket,
-    patience: Patience,
+    // That of a client. A dialed server has none: the caller that dialed counts the idles itself.
+    silence: Option<Silence>,
     ended: bool,
     idles: u64,
     receive_faults: u64,
@@ -109,7 +114,7 @@ impl RealConn {
     pub(crate) fn open(stream: TcpStream, silence: Silence) -> RealConn
         ensures fresh { result ≡ fresh_line }
     {
-        RealConn::over(stream, Patience::Limited(silence))
+        RealConn::over(stream, Some(silence))
     }
 
     /// Connects to a server, which has up to 10 s to accept. Returns the error of a refusal or
@@ -118,16 +123,16 @@ impl RealConn {
         ensures fresh { IfOk result (λ conn. conn ≡ fresh_line) }
     {
         let stream = connect(rt, to)?;
-        Ok(RealConn::over(stream, Patience::Endless))
+        Ok(RealConn::over(stream, None))
     }
 
-    fn over(stream: TcpStream, patience: Patience) -> RealConn
+    fn over(stream: TcpStream, silence: Option<Silence>) -> RealConn
         ensures fresh { result ≡ fresh_line }
     {
         prepare(&stream);
         RealConn {
             socket: Socket { stream },
-            patience,
+            silence,
             ended: false,
             idles: 0,
             receive_faults: 0,
@@ -140,12 +145,15 @@ impl RealConn {
         ensures within { ReadsAtMost result buf.new }
         ensures same { self.new ≡ self.old }
     {
-        match self.socket.read(self.patience.wait_ms(), buf) {
+        let Some(silence) = &mut self.silence else {
+            return self.socket.read(SERVER_WAIT_MS, buf);
+        };
+        match self.socket.read(silence.wait_ms(), buf) {
             Ok(count) => {
-                self.patience.hear();
+                silence.hear();
                 Ok(count)
             }
-            Err(error) if is_passing(&error) && self.patience.is_over() => {
+            Err(error) if is_passing(&error) && silence.is_over() => {
                 Err(io::Error::from(ErrorKind::TimedOut))
             }
             Err(error) => Err(error),
@@ -189,7 +197,9 @@ impl Conn for RealConn {
     }
 
     fn send(&mut self, bytes: &[u8]) -> Put {
-        self.patience.answer();
+        if let Some(silence) = &mut self.silence {
+            silence.answer();
+        }
         if send_all(&mut self.socket.stream, bytes).is_ok() {
             return Put::Whole;
         }

@@ -5,12 +5,11 @@ use satip_host::Stopwatch;
 use satip_world::DoorKind;
 use std::sync::Arc;
 
-// The time for which a client that sent nothing yet is waited for while others wait, in
-// milliseconds.
+// How long a client that sent nothing yet is waited for while others wait, in milliseconds.
 const FIRST_BYTE_MS: u64 = 2000;
 
-// The length of one wait for a client that has sent and received nothing for a while, and the length
-// of one before. An HTTP client that was sent something always gets the second.
+// The length of one wait for a client that has sent and received nothing for a while, and the
+// length of one before. An HTTP client that was sent something always gets the second.
 const QUIET_WAIT_MS: i32 = 1000;
 
 const BUSY_WAIT_MS: i32 = 50;
@@ -50,22 +49,22 @@ impl Silence {
         }
     }
 
-    // Notes that bytes were received.
-    fn hear(&mut self) {
+    /// Notes that bytes were received.
+    pub(crate) fn hear(&mut self) {
         self.was_heard = true;
         self.waits = 0;
         self.watch.restart();
         self.listeners.arrivals.add();
     }
 
-    // Notes that bytes were sent.
-    fn answer(&mut self) {
+    /// Notes that bytes were sent.
+    pub(crate) fn answer(&mut self) {
         self.was_answered = true;
         self.waits = 0;
     }
 
-    // Returns the length of the next wait in milliseconds, and counts it.
-    fn wait_ms(&mut self) -> i32 {
+    /// Returns the length of the next wait in milliseconds, and counts it.
+    pub(crate) fn wait_ms(&mut self) -> i32 {
         let reads_stream = self.kind == DoorKind::Http && self.was_answered;
         if reads_stream || self.waits < QUIET {
             self.waits = self.waits.saturating_add(1);
@@ -74,10 +73,10 @@ impl Silence {
         QUIET_WAIT_MS
     }
 
-    // Returns whether the client is given up: it was silent for longer than its limit, or it sent
-    // nothing in 2 s and others wait at the doors. A client that reads a stream over HTTP has
-    // nothing to send.
-    fn is_over(&self) -> bool {
+    /// Returns whether the client is given up: it was silent for longer than its limit, or it sent
+    /// nothing in 2 s and others wait at the doors. A client that reads a stream over HTTP has
+    /// nothing to send.
+    pub(crate) fn is_over(&self) -> bool {
         if self.kind == DoorKind::Http && self.was_answered {
             return false;
         }
@@ -86,51 +85,5 @@ impl Silence {
             return true;
         }
         !self.was_heard && silent_ms > FIRST_BYTE_MS && self.listeners.somebody_waits()
-    }
-}
-
-// The length of one wait for a dialed server, in milliseconds.
-const SERVER_WAIT_MS: i32 = 1;
-
-/// The limit of the other end's silence, and the length of one wait for it.
-#[derive(Drop)]
-pub(crate) enum Patience {
-    /// The limit of a client.
-    Limited(Silence),
-    /// No limit: the caller that dialed counts the idles itself.
-    Endless,
-}
-
-impl Patience {
-    /// Returns the length of the next wait for input, in milliseconds.
-    pub(crate) fn wait_ms(&mut self) -> i32 {
-        match self {
-            Patience::Limited(silence) => silence.wait_ms(),
-            Patience::Endless => SERVER_WAIT_MS,
-        }
-    }
-
-    /// Notes that bytes were received.
-    pub(crate) fn hear(&mut self) {
-        match self {
-            Patience::Limited(silence) => silence.hear(),
-            Patience::Endless => {}
-        }
-    }
-
-    /// Notes that bytes were sent.
-    pub(crate) fn answer(&mut self) {
-        match self {
-            Patience::Limited(silence) => silence.answer(),
-            Patience::Endless => {}
-        }
-    }
-
-    /// Returns whether the other end is given up.
-    pub(crate) fn is_over(&self) -> bool {
-        match self {
-            Patience::Limited(silence) => silence.is_over(),
-            Patience::Endless => false,
-        }
     }
 }

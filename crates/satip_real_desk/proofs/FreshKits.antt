@@ -1,5 +1,5 @@
 -- Kits over the system, as the jobs see them.
-use Rattle.std.proofs.Common.{ℕ, false, List, [], ◌∷◌, None, All, map, ap}
+use Rattle.std.proofs.Common.{ℕ, false, List, [], ◌∷◌, All, map, ap}
 use Rattle.std.proofs.lemmas.List.Elements.{All-head, All-tail}
 use Rattle.satip_base.specs.Lists.{Each}
 use Rattle.satip_real_desk.specs.Unused.{IsUnusedWorker, IsUnusedPump, IsUnusedTick}

@@ -119,8 +119,8 @@ impl Shared {
         Ok(RealPacer::new(host, Start::watching(&self.starts)?))
     }
 
-    /// Makes the pacer of a pump, which follows what its store reports to `progress`. `place` is that of
-    /// the pump among all pumps, from 0.
+    /// Makes the pacer of a pump, which follows what its store reports to `progress`. `place` is
+    /// that of the pump among all pumps, from 0.
     pub(crate) fn pump_pacer<R: Wait + Drop>(
         &self,
         host: HostRuntime,

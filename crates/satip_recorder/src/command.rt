@@ -18,7 +18,8 @@ use satip_config::Outcome;
 use satip_desk::Desk;
 use std::alloc::Global;
 
-/// The outcome of a recording, with the connection, the inlet and the clock that the desk gave for it.
+/// The outcome of a recording, with the connection, the inlet and the clock that the desk gave for
+/// it.
 pub struct Recorded<K: Desk> {
     pub outcome: Outcome,
     pub wire: Option<K::Wire>,
@@ -27,8 +28,8 @@ pub struct Recorded<K: Desk> {
 }
 
 /// Records with the clock, the connection to the address and the inlet that the desk gives, in this
-/// order. The outcome is `PeerFault` if the desk doesn't give the connection or the inlet. Logs a line
-/// for each gap, and then the line of the outcome.
+/// order. The outcome is `PeerFault` if the desk doesn't give the connection or the inlet. Logs a
+/// line for each gap, and then the line of the outcome.
 pub fn record<K: Desk, O: Sink, E: Sink>(
     alloc: Global,
     recording: &Recording,
@@ -73,8 +74,8 @@ pub fn record<K: Desk, O: Sink, E: Sink>(
     }
 }
 
-// Returns the outcome of a recording for which the desk gave no connection or no inlet, and logs its
-// line.
+// Returns the outcome of a recording for which the desk gave no connection or no inlet, and logs
+// its line.
 fn not_given<K: Desk, E: Sink>(
     wire: Option<K::Wire>,
     moment: K::Moment,

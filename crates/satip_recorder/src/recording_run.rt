@@ -73,8 +73,8 @@ fn end_of(outcome: Result<(), RecordEnd>) -> RecordEnd
 
 // Logs the line of an end.
 fn say<E: Sink>(end: RecordEnd, tape: &mut Tape, errors: &mut E)
-    ensures tells { Tells E.tells (E.drain errors.old) (E.drain errors.new) (line_of (outcome_for end))
-        tape.old.muted tape.new.muted }
+    ensures tells { Tells E.tells (E.drain errors.old) (E.drain errors.new)
+        (line_of (outcome_for end)) tape.old.muted tape.new.muted }
 {
     let mut line = Strip::new();
     outcome_of(end).print(&mut line);
@@ -130,8 +130,8 @@ fn record<W: Conn, I: Inlet, M: Clock, O: Sink, E: Sink>(
 /// Sends SETUP with the query and the inlet's port and, after it is accepted, PLAY. Then receives
 /// datagrams, puts them in order, and writes their packets. Before each receive it reads the clock,
 /// and sends OPTIONS if half of the session's time is over since the mark. Sends TEARDOWN after all
-/// packets are written. Replies to OPTIONS and TEARDOWN aren't read. Takes all its memory before the
-/// first request.
+/// packets are written. Replies to OPTIONS and TEARDOWN aren't read. Takes all its memory before
+/// the first request.
 ///
 /// Logs a line for each gap, and then the line of the end, unless it is `Done`. After a line that
 /// couldn't be logged it logs none.

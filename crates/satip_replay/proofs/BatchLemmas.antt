@@ -13,7 +13,7 @@ use Rattle.satip_desk.specs.Streams.{Streams}
 use Rattle.satip_desk.specs.Views.{DeskView}
 use Rattle.satip_replay.specs.BatchStreams.{BatchStreams, with_config}
 use Rattle.satip_replay.specs.BatchCommands.{BatchCommand, BatchEnds, BatchRuns, batch_statuses}
-use Rattle.satip_replay.specs.Ends.{ConfigurationFails, EndsByInput, InputFails}
+use Rattle.satip_replay.specs.Ends.{ConfigurationFails, InputFails}
 
 -- the status of each outcome
 has_status : (ct : Type 0) (o n : BatchStreams) (end : Outcome) → BatchRuns ct o n end → Has (status_of end) batch_statuses

@@ -1,5 +1,5 @@
 -- How long replies are.
-use Rattle.std.proofs.Common.{ℕ, ◌+◌, ◌<◌, ◌≤◌, ◌^◌, ◌==◌, ◌/◌, ◌%◌, Bool, true, false, cond, List, length, Option, Some, None, IfSome, arith, length-append}
+use Rattle.std.proofs.Common.{ℕ, ◌<◌, ◌≤◌, ◌^◌, ◌/◌, ◌%◌, List, length, Option, Some, None, IfSome, arith, length-append}
 use Rattle.satip_base.proofs.NumberLemmas.{length-decimal_u8, length-decimal_u16, length-decimal_u32, length-decimal_u64}
 use Rattle.satip_base.proofs.TextLemmas.{length-id_text}
 use Rattle.satip_base.specs.Texts.{address_text}
@@ -7,16 +7,9 @@ use Rattle.satip_base.specs.declared.network.Ports.{Ports}
 use Rattle.satip_base.specs.declared.identity.SessionId.{SessionId}
 use Rattle.satip_frame.specs.declared.framing.Break.{Break}
 use Rattle.satip_frame.specs.declared.framing.Break.TheVariants.{Bad, TooLong}
-use Rattle.satip_query.specs.Bodies.{body_text}
 use Rattle.satip_query.specs.declared.bodies.RefusalBody.{RefusalBody}
-use Rattle.satip_query.specs.declared.bodies.RefusalBody.TheVariants.{CheckSyntax, OutOfRange, NotOwner, NoMorePids, NoMoreSessions, NoMoreFrontends}
-use Rattle.satip_tune.specs.Words.{key_text}
-use Rattle.satip_tune.specs.declared.keys.Key.{Key}
-use Rattle.satip_tune.specs.declared.keys.Key.TheVariants.{Fe, Src, Freq, Pol, Ro, Msys, Mtype, Plts, Sr, Fec, Pids, Addpids, Delpids}
-use Rattle.satip_query.specs.Statuses.{phrase_of}
 use Rattle.satip_query.proofs.BodyLengths.{length-phrase_of-le, length-body_part-le}
 use Rattle.satip_rtsp.specs.Replies.{status_line, cseq_line, session_line, options_reply, closing_reply, plain_reply, describe_head, setup_reply, play_reply, unsupported_reply, text_reply}
-use Rattle.satip_query.specs.Bodies.{body_part}
 
 pub length-status_line-le : (status : ℕ) → status < 2 ^ 16 → length (status_line status) ≤ 47
 unfolding status_line

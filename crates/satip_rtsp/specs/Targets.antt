@@ -1,7 +1,7 @@
 -- The target of a request: an optional origin, a path and an optional query (RFC 2326, 3.2).
-use Rattle.std.specs.Prelude.{ℕ, ◌==◌, ◌||◌, ◌&&◌, ◌-◌, nat_eq, Bool, List, [], ◌∷◌, length, take, drop, codes, Option, Some, None, option_map, if◌then◌else◌}
-use Rattle.std.specs.List.{after_first, before_first, position_or_len, ends_with}
-use Rattle.std.specs.Str.{bytes_eq, str_eq_ignore_ascii_case}
+use Rattle.std.specs.Prelude.{ℕ, ◌&&◌, ◌-◌, nat_eq, Bool, List, [], ◌∷◌, length, take, drop, codes, Option, Some, None, option_map, if◌then◌else◌}
+use Rattle.std.specs.List.{after_first, before_first, ends_with}
+use Rattle.std.specs.Str.{bytes_eq}
 use Rattle.satip_base.specs.Numbers.{number_of}
 use Rattle.satip_frame.specs.Origins.{after_front}
 use Rattle.satip_tune.specs.Pieces.{is_byte}

@@ -1,5 +1,5 @@
 -- Lines and their parts.
-use Rattle.std.proofs.Common.{◌≡◌, ℕ, Bool, true, false, List, [], Option, Some, None, Result, Ok, Err, refl, sym, ap, ◌∙◌, subst}
+use Rattle.std.proofs.Common.{◌≡◌, ℕ, Bool, true, false, List, [], Option, Some, None, Result, Ok, Err, refl, sym, ap, subst}
 use Rattle.std.specs.Prelude.{MatchBool, IsOk, IsSome, IsSomeAnd, is_some, option_map}
 use Rattle.std.specs.Bool.{OnTrue}
 use Rattle.std.specs.Result.{result_ok}
@@ -20,7 +20,7 @@ use Rattle.satip_script.specs.declared.messages.Look.TheVariants.{Whole as LookW
 use Rattle.satip_script.specs.declared.parts.EventParts.{EventParts}
 use Rattle.satip_script.specs.Lines.{words_of, is_skipped_text}
 use Rattle.satip_script.specs.Forms.{Form, Rtsp, Http, Other, call_from, form_of, packet_event}
-use Rattle.satip_script.specs.Reading.{IsFormed, IsLine, rtsp_event, http_event}
+use Rattle.satip_script.specs.Reading.{IsFormed, IsLine}
 use Rattle.satip_script.specs.Texts.{Told, Whole, NotWhole, Tells, request_of, get_of}
 use Rattle.satip_script.specs.InParts.{AreParts, AreWrong, Asks, AsksNothing, IsInParts, form_in}
 use Rattle.satip_script.specs.Inner.{Says, Sees, SeesIn}

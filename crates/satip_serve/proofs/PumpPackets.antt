@@ -16,7 +16,7 @@ use Rattle.satip_turn.specs.Views.{numbers_of}
 use Rattle.satip_worker.specs.Drawing.{draw_at}
 use Rattle.satip_shared.specs.Calling.{ServerPass}
 use Rattle.satip_desk.specs.Views.{WorkerView, PumpView, JobsView}
-use Rattle.satip_serve.specs.Done.{Caller, IsFull, WorkerDone, PumpDone}
+use Rattle.satip_serve.specs.Done.{Caller, WorkerDone, PumpDone}
 use Rattle.satip_serve.specs.ServeRuns.{Along, StopsOnce, HasNoStop, ServeRun}
 use Rattle.satip_serve.specs.Laws.{GivesRecordings, EachAt, PlaysAt, PlaysRecordings}
 use Rattle.satip_serve.proofs.Quiet.{IsQuiet, quiet_event, serves_quiet, ticks_quiet}

@@ -30,9 +30,9 @@ const LOOKS: u64 = 100_000;
 /// The packets of the first multiplex's recording.
 const PACKETS: u64 = 200;
 
-/// A plan of a run: the number of workers, the pieces of the first worker's client and those of each
-/// other one's with the kind of its connection, the port to which datagrams of RTP go, the gate that
-/// the pumps wait for, and the step of the ticker's clock.
+/// A plan of a run: the number of workers, the pieces of the first worker's client and those of
+/// each other one's with the kind of its connection, the port to which datagrams of RTP go, the
+/// gate that the pumps wait for, and the step of the ticker's clock.
 #[derive(Clone, Copy)]
 pub struct Plan {
     pub workers: u16,

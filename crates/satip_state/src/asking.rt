@@ -22,8 +22,8 @@ pub fn changed_tuning(old: Option<Tuning>, change: &Change) -> Result<Tuning, Ke
     }
 }
 
-/// Returns the tuning to set: one that is asked for, and differs from the old one. Returns the first
-/// missing key if a change without an old tuning lacks a needed one.
+/// Returns the tuning to set: one that is asked for, and differs from the old one. Returns the
+/// first missing key if a change without an old tuning lacks a needed one.
 pub fn to_set(old: Option<Tuning>, change: &Change) -> Result<Option<Tuning>, Key>
     ensures to_set { IfOk result (λ tuning. tuning ≡ tuning_to_set old change.now) }
     ensures missing { result_err result
@@ -63,8 +63,8 @@ fn asked_pids(pids: &mut PidSet, query: &Query) -> Option<PidFault>
     remove(pids, &query.delpids)
 }
 
-/// Sets `pids` to those that a query makes of a stream's own. Returns the first fault, and `pids` is
-/// then of no use. Without a list `pids` stays: a set is large.
+/// Sets `pids` to those that a query makes of a stream's own. Returns the first fault, and `pids`
+/// is then of no use. Without a list `pids` stays: a set is large.
 pub fn ask_pids(pids: &mut PidSet, own: &PidSet, query: &Query) -> Option<PidFault>
     ensures asked { gives_pids query.now ≡ true → result ≡ None
         → pids_asked own.now query.now ≡ Ok pids.new }

@@ -58,8 +58,8 @@ impl Parts {
         self.flow.change(number, Some(front), &pids);
     }
 
-    /// Changes a living stream by a query: its tuning first, then its PIDs. `tuning` is the tuning to
-    /// set, and `pids` are the PIDs after the query if it gives a list of them.
+    /// Changes a living stream by a query: its tuning first, then its PIDs. `tuning` is the tuning
+    /// to set, and `pids` are the PIDs after the query if it gives a list of them.
     pub fn change_by(
         &mut self,
         number: u16,

@@ -10,7 +10,8 @@ const USAGE: &[u8] =
     b"usage: satip talk | replay CONFIG | serve CONFIG ACCEPTS | stress SEED COUNT \
     | tunnel CONFIG ACCEPTS | journal CONFIG ACCEPTS | audit CONFIG | record ADDRESS QUERY COUNT\n";
 
-// Words that name no service: an empty name, a word less, a word more, and numbers that aren't read.
+// Words that name no service: an empty name, a word less, a word more, and numbers that aren't
+// read.
 const WRONG: &[(&str, &[&str])] = &[
     ("no name", &["serve", "", "1"]),
     ("no number", &["journal", "c1.toml"]),

@@ -51,8 +51,8 @@ pub(crate) struct Plan {
     pub failing: &'static [u64],
     /// The number of jobs that get a journal.
     pub journals: u64,
-    /// The job with a journal that fails, and the number, from 1, of the put that fails there; 0 for
-    /// none.
+    /// The job with a journal that fails, and the number, from 1, of the put that fails there; 0
+    /// for none.
     pub failing_job: u64,
     pub failing_put: u64,
 }

@@ -211,8 +211,8 @@ fn check_workers(rt: &impl Abort, name: &str, workers: &[MemoryWorker], served: 
     }
 }
 
-/// Runs the program with these words over the desk of a row. Asserts, by this name, the result of the
-/// row.
+/// Runs the program with these words over the desk of a row. Asserts, by this name, the result of
+/// the row.
 pub(crate) fn run_row<R: Threads + Wait + Sync + Abort>(
     rt: &R,
     alloc: Global,

@@ -1,8 +1,8 @@
 //! Serves tunnel connections: replies and RTP leave on one connection (RFC 2326, section 10.12).
 //! Contract: the entries of a connection are one Enter, the requests of what it received, each
 //! followed by a drain, and one Leave. It was sent their rewritten replies and the drained frames,
-//! or a prefix of that. Each end has its cause. It pauses after each drain that found no frame while
-//! nothing came in. The silent outlet sends no datagram.
+//! or a prefix of that. Each end has its cause. It pauses after each drain that found no frame
+//! while nothing came in. The silent outlet sends no datagram.
 //! Only tested: that memory for a connection's room is given; that the lane is drained at every
 //! receive that finds nothing, with one pause each, and at every one that completes no message,
 //! with none.

@@ -15,14 +15,13 @@ use Rattle.satip_rtsp.specs.declared.requests.Refusal.TheVariants.{Broken, TooLo
 use Rattle.satip_frame.specs.declared.framing.Break.TheVariants.{Bad, TooLong as too_long}
 use Rattle.satip_plain.specs.declared.events.Event.{Event}
 use Rattle.satip_plain.specs.declared.events.Event.TheVariants.{Request as Asks, Get, Tick, Packet, Ended, Ask, Pull, Close, Stop}
-use Rattle.satip_plain.specs.declared.setting.Setting.{Setting}
 use Rattle.satip_plain.specs.Types.{Config, Draw, Peer, Request}
 use Rattle.satip_plain.specs.State.{Session, State, Stream}
 use Rattle.satip_plain.specs.Sending.{settle}
 use Rattle.satip_plain.specs.Refusals.{Refused, decide, session_named}
 use Rattle.satip_plain.specs.Steps
 use Rattle.satip_plain.specs.Steps.{description, done_by, heard_by, message_reply, no_ports, play_of, refused_reply, reply_to_refused, setup_number, setup_session, step, teardown_of, view_of}
-use Rattle.satip_plain.specs.Histories.{Item, Legal, LegalFrom, opening}
+use Rattle.satip_plain.specs.Histories.{Item, LegalFrom, opening}
 use Rattle.satip_plain.specs.Readings.{Readings, nothing_read, read_one}
 use Rattle.satip_plain.specs.Values.{IsEvent}
 use Rattle.satip_laws.proofs.Agree.{Agrees}
@@ -33,7 +32,6 @@ use Rattle.satip_laws.proofs.Law.{agrees_opening}
 use Rattle.satip_laws.proofs.Moves.{IsSound}
 use Rattle.satip_laws.proofs.Over.{opening_sound}
 use Rattle.satip_laws.proofs.Steps.{agrees_step}
-use Rattle.satip_laws.specs.Makings.{made_by}
 use Rattle.satip_tunnel_laws.specs.Answered.{HasReply, HistoriesReply, KeepsPlain}
 use Rattle.satip_tunnel_laws.specs.Pieces.{IsReply}
 use Rattle.satip_tunnel_laws.proofs.FewPids.{HasFew, HaveFew, heard_streams, step_few}

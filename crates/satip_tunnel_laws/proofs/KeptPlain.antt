@@ -1,7 +1,6 @@
 -- A header value of a good head has no CR and no LF, so a request keeps none.
-use Rattle.std.proofs.Common.{◌≡◌, ◌==◌, ℕ, Bool, true, false, cond, List, [], ◌∷◌, map, All, find, Option, Some, None, Result, Ok, Err, IsTrue, arith, refl, sym, subst, ⊎_elim}
+use Rattle.std.proofs.Common.{◌≡◌, ℕ, Bool, true, false, cond, List, [], ◌∷◌, map, All, find, Option, Some, None, Result, Ok, Err, IsTrue, arith, refl, sym, subst}
 use Rattle.std.specs.Prelude.{codes, option_map}
-use Rattle.std.specs.List.{list_all}
 use Rattle.std.specs.Str.{bytes_eq}
 use Rattle.std.proofs.lemmas.Bool.Decides.{nat_tests}
 use Rattle.std.proofs.lemmas.List.Elements.{All-head, All-tail}

@@ -1,5 +1,5 @@
 -- The server never makes more sessions than it counts with 32 bits.
-use Rattle.std.proofs.Common.{◌≡◌, ◌∙◌, ℕ, ◌+◌, ◌≤◌, ◌&&◌, ◌||◌, nat_le, Bool, true, false, cond, List, [], ◌∷◌, length, Option, Some, None, is_none, option_to_list, arith, refl, sym, ap, subst, if◌then◌else◌, unwrap_or}
+use Rattle.std.proofs.Common.{◌≡◌, ◌∙◌, ℕ, ◌+◌, ◌≤◌, ◌&&◌, ◌||◌, nat_le, Bool, true, false, cond, [], length, Option, Some, None, is_none, option_to_list, arith, refl, sym, ap, subst, if◌then◌else◌, unwrap_or}
 use Rattle.std.proofs.lemmas.Bool.{and_parts}
 use Rattle.std.proofs.lemmas.Bool.Decides.{nat_tests}
 use Rattle.satip_base.specs.Lists.{Each}
@@ -11,7 +11,7 @@ use Rattle.satip_rtsp.specs.declared.requests.Method.{Method}
 use Rattle.satip_rtsp.specs.declared.requests.Method.TheVariants.{Options, Describe, Setup, Play, Teardown}
 use Rattle.satip_plain.specs.declared.events.Event.{Event}
 use Rattle.satip_plain.specs.declared.events.Event.TheVariants.{Request as Asked, Get as Got, Tick, Packet, Ended, Ask, Pull, Close, Stop}
-use Rattle.satip_plain.specs.Types.{Config, Draw, HttpRequest, Peer, Query, Request, Tuning}
+use Rattle.satip_plain.specs.Types.{Config, HttpRequest, Query, Request, Tuning}
 use Rattle.satip_plain.specs.State.{Session, State, Stream, most_made, most_sessions}
 use Rattle.satip_plain.specs.Streams.{outlook_of}
 use Rattle.satip_plain.specs.Refusals.{Refused, decide, decide_get, is_full, makes_session, new_outlook, of_change, of_query, stream_meant, telling}

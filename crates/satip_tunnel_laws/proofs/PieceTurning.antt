@@ -12,7 +12,7 @@ use Rattle.satip_base.specs.declared.network.Ports.{Ports}
 use Rattle.satip_base.specs.Lists.{Each}
 use Rattle.satip_tune.specs.Pieces.{is_byte}
 use Rattle.satip_rtsp.specs.Targets.{is_begun_with}
-use Rattle.satip_rtsp_interleaved.specs.Turned.{after_ports_name, channel_line, is_empty_line, ports_beside, ports_name, told_ports, turned, turned_line, before_return}
+use Rattle.satip_rtsp_interleaved.specs.Turned.{channel_line, is_empty_line, ports_beside, ports_name, told_ports, turned, turned_line, before_return}
 use Rattle.satip_rtsp_interleaved.proofs.TurnedLemmas.{turned_end, turned_step}
 use Rattle.satip_tunnel_laws.specs.Pieces.{IsLine, IsReply, is_plain, lined, size_name, told_size}
 use Rattle.satip_tunnel_laws.proofs.Plain.{IsPlain, plain-append, plain_decimal}

@@ -1,5 +1,5 @@
 -- How long the description of streams is at most, whatever numbers it prints.
-use Rattle.std.proofs.Common.{◌≡◌, ℕ, zero, suc, ◌+◌, ◌-◌, ◌*◌, ◌/◌, ◌%◌, ◌^◌, ◌<◌, ◌≤◌, ◌==◌, Bool, true, false, cond, List, [], ◌∷◌, ◌++◌, length, Option, Some, None, length-append, length-take, arith, ap}
+use Rattle.std.proofs.Common.{ℕ, zero, suc, ◌+◌, ◌-◌, ◌*◌, ◌/◌, ◌%◌, ◌^◌, ◌<◌, ◌≤◌, ◌==◌, Bool, true, false, cond, List, [], ◌∷◌, length, Option, Some, None, length-append, length-take, arith, ap}
 use Rattle.std.specs.Prelude.{decimal}
 use Rattle.std.specs.Fmt.{digit_glyph, digits, digits_onto}
 use Rattle.std.specs.List.{flat_map, suffix_len}
@@ -11,7 +11,7 @@ use Rattle.satip_pids.proofs.PidTexts.{listed_text-cons}
 use Rattle.satip_tune.specs.Frequency.{fraction_text, frequency_text, three_digits, without_end_zeros}
 use Rattle.satip_tune.specs.Pieces.{is_byte}
 use Rattle.satip_tune.specs.declared.tunings.Tuning.{Tuning}
-use Rattle.satip_rtcp.specs.Ses1.{lock_text, ses1, signal_text, tuner_text}
+use Rattle.satip_rtcp.specs.Ses1.{ses1, signal_text, tuner_text}
 use Rattle.satip_rtcp.specs.declared.views.StreamView.{StreamView}
 use Rattle.satip_rtcp.proofs.Lengths.{length-fec_field, length-lock_text, length-modulation_field, length-pilots_field, length-pol_text, length-roll_off_field, length-system_text}
 use Rattle.satip_sdp.specs.Sdp.{connection_line, control_line, direction_line, format_line, head_lines, media_line, name_line, origin_line, sdp, stream_lines, time_line, version_line}

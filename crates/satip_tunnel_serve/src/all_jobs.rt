@@ -120,7 +120,8 @@ fn serve_all<R: Threads + Wait + Sync, K: Devices>(
     requires ready { CanRun TunnelLegal server.now pass jobs }
     requires few { length jobs.pumps.items ≤ 16 }
     ensures ran { IfOk result (λ served. HaveTunneled
-        (doors_tell K.Doors.Conn.tells K.Doors.by_limit) (FreshJobs server.now.setting.start) server.now
+        (doors_tell K.Doors.Conn.tells K.Doors.by_limit)
+        (FreshJobs server.now.setting.start) server.now
         (jobs_seen K.Doors.hall K.Store.shelf K.Clock.dial jobs) served.0
         (jobs_seen K.Doors.hall K.Store.shelf K.Clock.dial served.1) served.2) }
     ensures outlets { IfOk result (λ served. HaveOutlets jobs served.1) }

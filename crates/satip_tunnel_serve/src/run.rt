@@ -80,7 +80,8 @@ pub fn run_in_tunnel<
     // the workers' keys and the pumps' recordings come back in order; it was a run of the tunnel if
     // the kits were fresh, but for one reading of the clock for the start
     ensures ran { TunnelJobsRan (doors_tell D.Conn.tells D.by_limit)
-        (FreshJobs (X.cell root).setting.start) (X.cell root).setting (posts_seen D.hall M.shelf C.dial posts) (X.pass result.0)
+        (FreshJobs (X.cell root).setting.start) (X.cell root).setting
+        (posts_seen D.hall M.shelf C.dial posts) (X.pass result.0)
         (posts_seen D.hall M.shelf C.dial result.1) result.2 }
 {
     run_jobs(

@@ -15,9 +15,9 @@ pub fn jobs_drain_own<D: Doors>()
 }
 
 /// Proves that in a run the frames on the wire of each connection are a prefix of its lane's, each
-/// of them whole. They are all that the lane had before the last drain, if that was answered that no
-/// frame waits. All else on the wire is rewritten replies. The wire splits into replies and frames
-/// in one way.
+/// of them whole. They are all that the lane had before the last drain, if that was answered that
+/// no frame waits. All else on the wire is rewritten replies. The wire splits into replies and
+/// frames in one way.
 pub fn connections_have_lanes<D: Doors>()
     ensures law { ConnectionsHaveLanes D.Conn.tells }
 {

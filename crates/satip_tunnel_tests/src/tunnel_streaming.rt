@@ -145,7 +145,8 @@ struct Feeder<S: Service + Drop> {
     tick: bool,
 }
 
-/// A connection over memory. A tick comes before its second receive, and packets before a later one.
+/// A connection over memory. A tick comes before its second receive, and packets before a later
+/// one.
 #[derive(Drop)]
 struct Fed<S: Service + Drop> {
     conn: MemoryConn,

@@ -14,7 +14,8 @@ use std::snapshot::Snapshot;
 pub struct Turns;
 
 impl<S: Served> TableRule<Slot<S>, Sight<S>, Snapshot<S>> for Turns {
-    ghost holds = { λ k s. Kept (in_box S.setting) S.legal (stands_in_box S.stands_for) (S.setting k.value) s };
+    ghost holds = { λ k s. Kept (in_box S.setting) S.legal (stands_in_box S.stands_for)
+        (S.setting k.value) s };
 
     ghost first = { λ k. opening_view (S.setting k.value) };
 }
@@ -23,7 +24,8 @@ impl<S: Served> TableRule<Slot<S>, Sight<S>, Snapshot<S>> for Turns {
 pub(crate) struct Take;
 
 impl<S: Served> Play<Slot<S>, Sight<S>> for Take {
-    ghost then = { λ _ me found after. Tries (in_box S.setting) (stands_in_box S.stands_for) me found after };
+    ghost then = { λ _ me found after. Tries (in_box S.setting) (stands_in_box S.stands_for)
+        me found after };
 }
 
 // Reads the length under the turn.

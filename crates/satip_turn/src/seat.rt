@@ -21,7 +21,8 @@ pub(crate) fn take<S: Served>(table: &TurnTable<S>, seat: &mut TurnSeat<S>) -> O
     requires cell { (seat.old.table_id ≡ table.now.table_id) × IsTurnTable table.now.table_id }
     requires idle { IsIdle seat.old.me }
     ensures cell { seat.new.table_id ≡ seat.old.table_id }
-    ensures taken { IfSome result (λ served. TakesTurn S.setting S.stands_for seat.old.me seat.new.me served.value) }
+    ensures taken { IfSome result
+        (λ served. TakesTurn S.setting S.stands_for seat.old.me seat.new.me served.value) }
     ensures met { IfNone result (seat.new.me ≡ (meeting seat.old.me.0, [])) }
 {
     if table.compare_exchange::<Take>(seat, 0, 0, 1) != 0 {

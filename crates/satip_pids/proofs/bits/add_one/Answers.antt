@@ -1,4 +1,4 @@
-use Rattle.std.proofs.Common.{◌≡◌, false, true, sym, ◌∙◌, length, arith}
+use Rattle.std.proofs.Common.{false, true, sym, ◌∙◌, arith}
 use Rattle.satip_pids.specs.Bits.{has_bit}
 use Rattle.satip_pids.proofs.BitSets.{members-put, members-put_there, length_more, listed_more}
 use Rattle.satip_pids.proofs.bits.add_one.Goals as goal

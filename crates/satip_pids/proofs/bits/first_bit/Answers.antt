@@ -1,7 +1,7 @@
-use Rattle.std.proofs.Common.{◌≡◌, ℕ, ◌+◌, ◌*◌, ◌/◌, ◌^◌, ◌<◌, ◌≤◌, get_or, w64, refl, subst, arith}
+use Rattle.std.proofs.Common.{◌≡◌, ◌+◌, ◌*◌, get_or, w64, refl, subst, arith}
 use Rattle.std.specs.Int.{trailing_zeros}
 use Rattle.satip_pids.specs.Bits.{IsNextFrom}
-use Rattle.satip_pids.proofs.BitSets.{next_in_word, word_passed}
+use Rattle.satip_pids.proofs.BitSets.{next_in_word}
 use Rattle.satip_pids.proofs.bits.first_bit.Goals as goal
 
 pub returns-then-word-ne0 : goal.returns-then-word-ne0

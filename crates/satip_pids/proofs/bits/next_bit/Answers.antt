@@ -1,6 +1,6 @@
-use Rattle.std.proofs.Common.{◌≡◌, ℕ, ◌+◌, ◌*◌, ◌/◌, ◌%◌, ◌^◌, ◌<◌, ◌≤◌, false, get_or, w64, refl, subst, arith}
+use Rattle.std.proofs.Common.{◌≡◌, ◌+◌, ◌*◌, ◌/◌, ◌%◌, ◌^◌, false, get_or, w64, refl, subst, arith}
 use Rattle.std.specs.Int.{trailing_zeros}
-use Rattle.satip_pids.specs.Bits.{has_bit, IsNextFrom}
+use Rattle.satip_pids.specs.Bits.{IsNextFrom}
 use Rattle.satip_pids.proofs.BitSets.{next_in_word, next_later, rest_passed}
 use Rattle.satip_pids.proofs.bits.next_bit.Goals as goal
 

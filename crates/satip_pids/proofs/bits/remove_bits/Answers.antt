@@ -1,4 +1,4 @@
-use Rattle.std.proofs.Common.{◌≡◌, [], ◌∷◌, get_or, take, ap, ◌∙◌}
+use Rattle.std.proofs.Common.{[], ◌∷◌, get_or, ap, ◌∙◌}
 use Rattle.satip_pids.specs.Rising.{without}
 use Rattle.satip_pids.specs.Bits.{members}
 use Rattle.satip_pids.proofs.BitSets.{without_more, without_none}

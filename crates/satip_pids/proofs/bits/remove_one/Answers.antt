@@ -1,4 +1,4 @@
-use Rattle.std.proofs.Common.{◌≡◌, false, true, sym, ◌∙◌, length, arith}
+use Rattle.std.proofs.Common.{false, true, sym, ◌∙◌, arith}
 use Rattle.satip_pids.specs.Bits.{has_bit}
 use Rattle.satip_pids.proofs.BitSets.{members-without, members-without_absent, length_less, listed_less}
 use Rattle.satip_pids.proofs.bits.remove_one.Goals as goal

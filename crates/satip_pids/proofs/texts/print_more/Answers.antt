@@ -1,4 +1,4 @@
-use Rattle.std.proofs.Common.{◌≡◌, ℕ, ◌+◌, ◌≤◌, List, [], ◌∷◌, ◌++◌, length, decimal, append-nil, refl, sym, ap, ◌∙◌, subst, arith}
+use Rattle.std.proofs.Common.{ℕ, ◌+◌, List, [], length, append-nil, sym, ap, subst, arith}
 use Rattle.std.specs.List.{flat_map}
 use Rattle.satip_base.specs.Printed.{Printed}
 use Rattle.satip_base.proofs.Writing.{◌then_printed◌}

@@ -1,4 +1,4 @@
-use Rattle.std.proofs.Common.{rules, ◌≡◌, refl, None, Some}
+use Rattle.std.proofs.Common.{rules, ◌≡◌, None, Some}
 use Rattle.satip_program.specs.Commands.{Serve, Tunnel, Journal, command_of, serving_of}
 use Rattle.satip_program.proofs.RunLemmas.{none_seen}
 use Rattle.satip_program.proofs.ServiceLemmas.{none_viewed, serve_tells, service_back, service_ends, service_tells}

@@ -1,4 +1,4 @@
-use Rattle.std.proofs.Common.{◌≡◌, ◌++◌, List, ℕ, ap, ◌∙◌, append_assoc, sym}
+use Rattle.std.proofs.Common.{◌≡◌, ◌++◌, List, ℕ, ap, ◌∙◌, append_assoc}
 use Rattle.satip_rtsp_interleaved.specs.Turned.{channel_line}
 use Rattle.satip_rtsp_interleaved.proofs.replies.append_channels.Goals as goal
 

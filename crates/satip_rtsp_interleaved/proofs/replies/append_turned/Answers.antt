@@ -1,4 +1,4 @@
-use Rattle.std.proofs.Common.{◌≡◌, ◌≤◌, ℕ, ◌+◌, ◌∷◌, ◌++◌, length, length-append, sym, ap, ◌∙◌, arith}
+use Rattle.std.proofs.Common.{◌+◌, ◌∷◌, ◌++◌, length, length-append, sym, ap, ◌∙◌, arith}
 use Rattle.satip_rtsp_interleaved.specs.Turned.{turned, turned_line}
 use Rattle.satip_rtsp_interleaved.proofs.TurnedLemmas.{begun_room, begun_more, begun_whole, turned_step, turned_end, turned_last}
 use Rattle.satip_rtsp_interleaved.proofs.replies.append_turned.Goals as goal

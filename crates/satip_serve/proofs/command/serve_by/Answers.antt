@@ -1,4 +1,4 @@
-use Rattle.std.proofs.Common.{◌∙◌, sym}
+use Rattle.std.proofs.Common.{◌∙◌}
 use Rattle.satip_serve.proofs.StatusLemmas.{unopened_ends}
 use Rattle.satip_serve.proofs.command.serve_by.Goals as goal
 

@@ -1,6 +1,5 @@
-use Rattle.std.proofs.Common.{◌≡◌, ◌<◌, ◌||◌, [], length, refl, sym, ap, ◌∙◌, subst}
-use Rattle.satip_pids.specs.Rising.{has_number}
-use Rattle.satip_pids.specs.Pids.{Every, Only, IsPidSet, has_pid, listed, grown}
+use Rattle.std.proofs.Common.{◌≡◌, refl, sym, ◌∙◌, subst}
+use Rattle.satip_pids.specs.Pids.{Every, IsPidSet, listed}
 use Rattle.satip_pids.proofs.SetViews.{every_view, every_added, every_members, every_few, was_listed, grown_view, many_grown, set_listed, added_exact, added_members, added_few, refused_exact}
 use Rattle.satip_pids.proofs.pid_set.PidSet.add.Goals as goal
 

@@ -1,4 +1,4 @@
-use Rattle.std.proofs.Common.{ap, sym, ◌∙◌, subst}
+use Rattle.std.proofs.Common.{ap, ◌∙◌, subst}
 use Rattle.satip_pids.specs.Pids.{IsPidSet, has_pid}
 use Rattle.satip_pids.proofs.SetViews.{has_pid_view, is_set_view}
 use Rattle.satip_pids.proofs.pid_set.PidSet.has.Goals as goal

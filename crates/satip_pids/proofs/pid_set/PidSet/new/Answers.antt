@@ -1,4 +1,4 @@
-use Rattle.std.proofs.Common.{◌≡◌, ℕ, replicate, inl, refl, ap, ◌∙◌}
+use Rattle.std.proofs.Common.{ℕ, replicate, inl, ap, ◌∙◌}
 use Rattle.std.proofs.lemmas.List.{length-replicate}
 use Rattle.satip_pids.specs.Pids.{Only}
 use Rattle.satip_pids.proofs.SetViews.{listed_view, none_listed, none_members}

@@ -1,4 +1,4 @@
-use Rattle.std.proofs.Common.{◌≡◌, ◌≤◌, codes, length, sym, ap, ◌∙◌, subst, arith}
+use Rattle.std.proofs.Common.{◌≡◌, length, sym, ap, ◌∙◌, subst, arith}
 use Rattle.satip_base.specs.Printed.{Printed}
 use Rattle.satip_pids.specs.Pids.{Every, IsPidSet}
 use Rattle.satip_pids.specs.Bits.{members}

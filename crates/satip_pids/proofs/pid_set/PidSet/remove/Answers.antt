@@ -1,6 +1,5 @@
-use Rattle.std.proofs.Common.{◌≡◌, ℕ, List, ◌&&◌, not, refl, sym, ap, ◌∙◌}
-use Rattle.satip_pids.specs.Rising.{has_number, without}
-use Rattle.satip_pids.specs.Pids.{Pids, Every, Only, IsPidSet, has_pid, remove_pids}
+use Rattle.std.proofs.Common.{◌≡◌, ℕ, List, refl, sym, ap, ◌∙◌}
+use Rattle.satip_pids.specs.Pids.{Pids, Every, Only, remove_pids}
 use Rattle.satip_pids.specs.Bits.{members}
 use Rattle.satip_pids.proofs.SetViews.{every_view, was_listed, left_view, set_listed, removed_exact, removed_members}
 use Rattle.satip_pids.proofs.pid_set.PidSet.remove.Goals as goal

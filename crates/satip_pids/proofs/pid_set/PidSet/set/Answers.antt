@@ -1,6 +1,5 @@
-use Rattle.std.proofs.Common.{◌≡◌, ◌<◌, ◌||◌, [], length, replicate, refl, sym, ap}
-use Rattle.satip_pids.specs.Rising.{has_number}
-use Rattle.satip_pids.specs.Pids.{Only, IsPidSet, has_pid, listed, grown}
+use Rattle.std.proofs.Common.{[], replicate, refl, sym, ap}
+use Rattle.satip_pids.specs.Pids.{Only, listed}
 use Rattle.satip_pids.proofs.SetViews.{none_listed, none_members, grown_view, many_grown, set_listed, added_exact, added_members, added_few, refused_exact}
 use Rattle.satip_pids.proofs.pid_set.PidSet.set.Goals as goal
 

@@ -1,4 +1,4 @@
-use Rattle.std.proofs.Common.{◌≡◌, ℕ, replicate, inr, refl}
+use Rattle.std.proofs.Common.{ℕ, replicate, inr, refl}
 use Rattle.std.proofs.lemmas.List.{length-replicate}
 use Rattle.satip_pids.proofs.SetViews.{every_view, all_whole}
 use Rattle.satip_pids.proofs.pid_set.PidSet.set_all.Goals as goal

@@ -1,4 +1,4 @@
-use Rattle.std.proofs.Common.{◌≡◌, ◌+◌, ◌*◌, ◌/◌, ◌%◌, ◌<◌, get_or, sym, ap, ◌∙◌, arith, if◌then◌else◌}
+use Rattle.std.proofs.Common.{◌+◌, ◌*◌, ◌<◌, ap, ◌∙◌, arith, if◌then◌else◌}
 use Rattle.satip_pids.specs.Pids.{has_pid}
 use Rattle.satip_pids.proofs.BitSets.{bit_of_word}
 use Rattle.satip_pids.proofs.SetViews.{has_pid_view}

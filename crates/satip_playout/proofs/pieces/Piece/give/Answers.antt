@@ -1,4 +1,4 @@
-use Rattle.std.proofs.Common.{ℕ, List, ◌≡◌, ◌+◌, ◌∙◌, drop, ap, arith, rules}
+use Rattle.std.proofs.Common.{ℕ, List, ◌∙◌, drop, ap, rules}
 use Rattle.satip_ts.proofs.Places.{held-drop}
 use Rattle.satip_playout.proofs.pieces.Piece.give.Goals as goal
 

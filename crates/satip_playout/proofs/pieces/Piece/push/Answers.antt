@@ -1,4 +1,4 @@
-use Rattle.std.proofs.Common.{ℕ, ◌≡◌, ◌+◌, ◌-◌, ◌≤◌, ◌++◌, length, take, drop, ap, ◌∙◌, arith, rules}
+use Rattle.std.proofs.Common.{ℕ, ◌≡◌, ◌+◌, ◌-◌, ◌≤◌, ◌++◌, length, ap, ◌∙◌, rules}
 use Rattle.satip_ts.proofs.Places.{held-put_mid}
 use Rattle.satip_playout.proofs.pieces.Piece.push.Goals as goal
 
