@@ -7,14 +7,13 @@
 // front end plays: by sendto from one socket, or by send from a connected socket for each port.
 // Without a port it only pauses. Prints the packets that it sent, and the seconds of CPU.
 //
-// `jobs` does the same from connected sockets in the threads that the specification asks for, with
-// their pauses: a pump that sends nine whole datagrams of each 64 packets, a ticker that sends the
-// packet left over, a pump that plays nothing, and a worker whose client is silent. It is the least
-// that such a server takes. Needs the Debian packages gcc and libc6-dev.
+// `jobs` does the same from connected sockets in the two threads that the specification asks for,
+// with their pauses: a pump that sends nine whole datagrams of each 64 packets, and a ticker that
+// sends the packet left over. It is the least that such a server takes. Needs the Debian packages
+// gcc and libc6-dev.
 #define _GNU_SOURCE
 #include <arpa/inet.h>
 #include <netinet/in.h>
-#include <poll.h>
 #include <pthread.h>
 #include <stdio.h>
 #include <stdlib.h>
@@ -23,8 +22,7 @@
 #include <time.h>
 
 enum { PACKET = 188, SEVEN = 7, HEADER = 12, BURST = 64, WHOLE = HEADER + SEVEN * PACKET };
-// Pauses of the specification: those of a job, and the wait for a silent client.
-enum { PAUSES = 50, PAUSE_MS = 20, IDLE_MS = 50 };
+enum { PAUSES = 50, PAUSE_MS = 20 };
 
 static struct sockaddr_in *to;
 static int *own, receivers, one;
@@ -85,32 +83,16 @@ static void *tick(void *nothing) {
     return nothing;
 }
 
-static void *ask(void *nothing) {
-    for (long round = 0; round < rounds; round++) {
-        rest();
-    }
-    return nothing;
-}
-
-static void *work(void *nothing) {
-    struct pollfd silent = {socket_to(NULL), POLLIN, 0};
-    for (long left_ms = rounds * PAUSE_MS; left_ms > 0; left_ms -= IDLE_MS + PAUSE_MS) {
-        poll(&silent, 1, IDLE_MS);
-        rest();
-    }
-    return nothing;
-}
-
 static void run_jobs(void) {
-    void *(*jobs[])(void *) = {pump, tick, ask, work};
-    pthread_t threads[4];
-    for (int job = 0; job < 4; job++) {
+    void *(*jobs[])(void *) = {pump, tick};
+    pthread_t threads[2];
+    for (int job = 0; job < 2; job++) {
         if (pthread_create(&threads[job], NULL, jobs[job], NULL)) {
             perror("pthread_create");
             exit(1);
         }
     }
-    for (int job = 0; job < 4; job++) {
+    for (int job = 0; job < 2; job++) {
         pthread_join(threads[job], NULL);
     }
 }

@@ -80,7 +80,11 @@ fn open_doors(rt: &impl Abort, host: HostRuntime, timeout_s: u32, limit: u32) ->
 }
 
 /// Opens doors, and connects a client for RTSP, which comes by them.
-pub(crate) fn meet(rt: &impl Abort, host: HostRuntime, timeout_s: u32) -> (RealDoors, TcpStream, Came) {
+pub(crate) fn meet(
+    rt: &impl Abort,
+    host: HostRuntime,
+    timeout_s: u32,
+) -> (RealDoors, TcpStream, Came) {
     let Server {
         mut doors,
         rtsp,

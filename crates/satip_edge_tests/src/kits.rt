@@ -215,7 +215,9 @@ fn settings_have_one_value_each(rt: HostRuntime) {
 }
 
 // Turns of all doors, each once. Returns the number of those that are idle.
-fn turn_all<R: Wait + Drop>(workers: Vec<WorkerKit<RealDoors, RealOutlet<R>, RealPacer<R>>>) -> usize {
+fn turn_all<R: Wait + Drop>(
+    workers: Vec<WorkerKit<RealDoors, RealOutlet<R>, RealPacer<R>>>,
+) -> usize {
     let mut idle = 0usize;
     for mut kit in workers {
         if matches!(kit.doors.next(), Door::Idle) {

@@ -43,7 +43,13 @@ fn an_arrival_ends_a_lull(rt: HostRuntime) {
     // nine more are short; at least one of the next two isn't
     let nine_ms = time_pauses(&rt, rt, &mut pacer, 9);
     check_within(&rt, "short pauses", nine_ms, 170, 900);
-    check_within(&rt, "a long one", time_pauses(&rt, rt, &mut pacer, 2), 900, 5_000);
+    check_within(
+        &rt,
+        "a long one",
+        time_pauses(&rt, rt, &mut pacer, 2),
+        900,
+        5_000,
+    );
 }
 
 // Returns the milliseconds that this number of idle receives take.
@@ -60,10 +66,22 @@ fn a_quiet_client_is_waited_for_longer(rt: HostRuntime) {
     let (mut doors, mut client, (kind, peer, mut conn)) = meet(&rt, rt, 60);
     let short_ms = time_idles(&rt, rt, &mut conn, 20);
     check_within(&rt, "short waits", short_ms, 970, 5_000);
-    check_within(&rt, "a long one", time_idles(&rt, rt, &mut conn, 1), 970, 5_000);
+    check_within(
+        &rt,
+        "a long one",
+        time_idles(&rt, rt, &mut conn, 1),
+        970,
+        5_000,
+    );
     // a byte ends a wait, and the next waits are short again
     client.write_all(b"a").expect(&rt, "a byte");
     check(&rt, "byte", conn.receive(&mut [0; 16]), Received::Got(1));
-    check_within(&rt, "a short one", time_idles(&rt, rt, &mut conn, 1), 49, 900);
+    check_within(
+        &rt,
+        "a short one",
+        time_idles(&rt, rt, &mut conn, 1),
+        49,
+        900,
+    );
     doors.back(conn, kind, peer, ConnEnd::ReadFault);
 }

@@ -237,14 +237,14 @@ fn packets_file(rt: &impl Abort, host: HostRuntime, word: &str, count: u8) -> Sc
     scratch_file(rt, host, word, &bytes)
 }
 
-// Returns what four takes of at most 200 bytes bring; and the bytes at 0, 187 and 188 of the first,
-// and at 175 of the second.
+// Returns what four takes of at most 200 bytes bring; and the bytes at 3, 190 and 191 of the first,
+// and at 178 of the second.
 fn take_four(from: &mut RealRecording) -> ([Taken; 4], [u8; 4]) {
     let mut buf = [9; 200];
     let first = from.take(&mut buf);
-    let (head, mark, next_head) = (buf[0], buf[187], buf[188]);
+    let (head, mark, next_head) = (buf[3], buf[190], buf[191]);
     let second = from.take(&mut buf);
-    let next_mark = buf[175];
+    let next_mark = buf[178];
     let (third, fourth) = (from.take(&mut buf), from.take(&mut buf));
     (
         [first, second, third, fourth],
@@ -257,7 +257,7 @@ fn a_recording_is_read_from_its_file(rt: HostRuntime) {
     let file = packets_file(&rt, rt, "plain", 2);
     let mut store = store(&rt, rt, &file, playing(false));
     check(&rt, "length", store.length(1).ok(), Some(479));
-    let taken = [Taken::Got(200), Taken::Got(176), Taken::End, Taken::End];
+    let taken = [Taken::Got(200), Taken::Got(200), Taken::Got(79), Taken::End];
     let got = take_four(&mut begin(&rt, &mut store));
     check(&rt, "takes", got, (taken, [0x47, 0, 0x47, 1]));
 }

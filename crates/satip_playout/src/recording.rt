@@ -2,6 +2,7 @@
 
 ghost use Rattle.std.specs.Prelude.{◌≡◌, ◌≢◌, ◌↔◌, [], IfOk, IsTrue};
 ghost use Rattle.satip_base.specs.Streams.{fresh_feed};
+ghost use Rattle.std.specs.Io.{ReadsAtMost};
 
 use crate::pieces::{PACKETS, Piece};
 use crate::progress::Progress;
@@ -113,6 +114,11 @@ impl Playing {
         })
     }
 
+    // Returns whether packets are looked at one by one.
+    fn needs_packets(&self) -> bool {
+        self.repeats || self.has_clock()
+    }
+
     fn has_clock(&self) -> bool {
         match &self.progress {
             Some(progress) => progress.is_by_clock(),
@@ -133,7 +139,8 @@ impl Playing {
     }
 }
 
-/// The packets of a recording's file, one after the other, without the bytes between them.
+/// The bytes of a recording's file. If it repeats or its clock counts, its packets, one after the
+/// other, without the bytes between them.
 #[derive(Drop)]
 struct PacketReader {
     rt: HostRuntime,
@@ -167,6 +174,18 @@ impl PacketReader {
             playing,
             any: false,
         })
+    }
+
+    // Reads bytes as they are in the file.
+    fn read_bytes(&mut self, buf: &mut [u8]) -> io::Result<usize>
+        ensures within { ReadsAtMost result buf.new }
+    {
+        let count = self.file.read(buf);
+        if let Err(error) = &count {
+            report_fault(&self.rt, &self.name, error);
+        }
+        self.playing.tell(None);
+        count
     }
 
     // Cuts as many packets as fit and are left, and reports the clock's place after them.
@@ -236,6 +255,9 @@ impl PacketReader {
 
 impl Read for PacketReader {
     fn read(&mut self, buf: &mut [u8]) -> io::Result<usize> {
+        if !self.playing.needs_packets() {
+            return self.read_bytes(buf);
+        }
         if self.piece.is_empty() {
             let filled = self.fill();
             if self.piece.is_empty() {
@@ -282,8 +304,8 @@ fn copy(rt: &HostRuntime, name: &Text) -> io::Result<Text> {
     }
 }
 
-/// A recording that is read from its file, 65536 bytes at once. It is handed out packet by packet,
-/// at most 16 at once.
+/// A recording that is read from its file, 65536 bytes at once. If it repeats or its clock counts,
+/// it is handed out packet by packet, at most 16 at once, else byte by byte.
 #[derive(Drop)]
 pub struct RealRecording {
     source: ReadSource<PacketReader>,
