@@ -1,8 +1,8 @@
 #!/usr/bin/env python3
 """Measures `satip serve` on loopback, and plain loops that only send at the same pace: by sendto
 from one socket, and from a connected socket for each receiver; a pump and a ticker that only send
-and pause as the specification asks of a server; and a loop that only pauses. It counts the calls of the
-system by kind, too.
+and pause as the specification asks of a server; and a loop that only pauses. It counts the calls of
+the system by kind, too.
 
     python3 bench/serve.py [PROGRAM [SECONDS]]
 

@@ -176,11 +176,11 @@ impl PacketReader {
         })
     }
 
-    // Reads bytes as they are in the file.
+    // Reads bytes as they are in the file, past the buffer, which would only copy them.
     fn read_bytes(&mut self, buf: &mut [u8]) -> io::Result<usize>
         ensures within { ReadsAtMost result buf.new }
     {
-        let count = self.file.read(buf);
+        let count = self.file.get_mut().read(buf);
         if let Err(error) = &count {
             report_fault(&self.rt, &self.name, error);
         }
@@ -304,8 +304,9 @@ fn copy(rt: &HostRuntime, name: &Text) -> io::Result<Text> {
     }
 }
 
-/// A recording that is read from its file, 65536 bytes at once. If it repeats or its clock counts,
-/// it is handed out packet by packet, at most 16 at once, else byte by byte.
+/// A recording that is read from its file. If it repeats or its clock counts, 65536 bytes are read
+/// at once, and it is handed out packet by packet, at most 16 at once. Else as much is read as is
+/// asked for.
 #[derive(Drop)]
 pub struct RealRecording {
     source: ReadSource<PacketReader>,

@@ -12,7 +12,7 @@ use std::snapshot::Snapshot;
 
 /// The least count of datagrams that are sent from the output of their event. To copy fewer costs
 /// less than a burst that ends early.
-const MANY: usize = 16;
+const MANY: usize = 4;
 
 /// Gives the waiting packets as events of a front end for one tune number. It goes on while the
 /// answers name that number and the batch has room for the datagrams of any event, until an event

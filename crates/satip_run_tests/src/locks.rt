@@ -12,7 +12,7 @@ use satip_plain::{Answer, Event, Lot, Service, ServiceFault};
 use satip_pump::{Batch, JobEnd, run_pump, run_ticker};
 use satip_solo::Solo;
 use satip_solo::connections::{KEY, PLAY};
-use satip_solo::setting::{give, letters, play, set_up, solo};
+use satip_solo::setting::{give, letters, play, play_of, set_up, solo};
 use satip_worker::{Draws, Room, WorkerEnd, run_worker, serve_connection};
 use satip_world::{Conn, ConnEnd, DoorKind, Outlet, Received};
 use std::alloc::Global;
@@ -199,25 +199,26 @@ fn work<R: Wait + Sync + Abort>(
     run_worker(rt, solo, &mut kit, 0, &mut room)
 }
 
-// A store with a recording of seven packets.
-fn store(rt: &impl Abort, alloc: Global) -> MemoryStore {
-    let text = given(rt, repeated(alloc, &[(packet_bytes(16).as_slice(), 7)]));
+// A store with a recording of this number of packets.
+fn store(rt: &impl Abort, alloc: Global, packets: usize) -> MemoryStore {
+    let text = given(rt, repeated(alloc, &[(packet_bytes(16).as_slice(), packets)]));
     let mut store = MemoryStore::make(alloc, &[]).expect(rt, "out of memory");
     store.add(1, &text, &[], &[]).expect(rt, "out of memory");
     store
 }
 
-// A pump with the recording.
+// A pump with a recording of this number of packets.
 fn pump<R: Wait + Sync + Abort>(
     rt: &R,
     alloc: Global,
     solo: &mut Counted<'_, Solo>,
     tally: &Tally,
+    packets: usize,
 ) -> JobEnd {
     let mut out = Out::make(alloc).expect(rt, "out of memory");
     let mut batch = Batch::make(alloc).expect(rt, "out of memory");
     let mut kit = PumpKit {
-        store: store(rt, alloc),
+        store: store(rt, alloc, packets),
         outlet: outlet(rt, alloc, tally),
         pacer: MemoryPacer::new(),
     };
@@ -253,7 +254,7 @@ fn run_jobs<R: Wait + Sync + Abort>(
         &work(rt, alloc, solo, tally),
         &WorkerEnd::Closed,
     );
-    check(rt, "pump", &pump(rt, alloc, solo, tally), &JobEnd::Stopped);
+    check(rt, "pump", &pump(rt, alloc, solo, tally, 7), &JobEnd::Stopped);
     check(
         rt,
         "ticker",
@@ -282,6 +283,46 @@ fn three_jobs_lock_for_each_event(rt: HostRuntime) {
     );
     check(&rt, "counts", &tally.counts(), &[7, 7, 2, 0]);
     check(&rt, "calls", &tally.call_counts(), &[7, 0]);
+}
+
+// Sets up and plays this number of sessions of one multiplex.
+fn play_all(rt: &impl Abort, alloc: Global, solo: &mut Solo, sessions: u16) {
+    let mut out = Out::make(alloc).expect(rt, "out of memory");
+    for number in 1..=sessions {
+        check(rt, "set up", &given(rt, set_up(solo, &mut out)), &200);
+        let played = given(rt, play_of(solo, number, &mut out));
+        check(rt, "played", &played, &200);
+    }
+}
+
+// Runs a pump with 14 packets for this number of sessions. Asserts how many calls it made, each
+// under one lock, and how many datagrams left.
+fn check_pump<R: Wait + Sync + Abort>(
+    rt: &R,
+    alloc: Global,
+    sessions: u16,
+    calls: u64,
+    datagrams: u64,
+) {
+    let mut solo = given(rt, solo(alloc, Some(2 * sessions as u64 + 16)));
+    play_all(rt, alloc, &mut solo, sessions);
+    let tally = Tally::new();
+    let mut counted = Counted {
+        service: solo,
+        tally: &tally,
+    };
+    let end = pump(rt, alloc, &mut counted, &tally, 14);
+    check(rt, "pump", &end, &JobEnd::Stopped);
+    check(rt, "calls", &tally.call_counts(), &[calls, 0]);
+    check(rt, "counts", &tally.counts(), &[calls, calls, datagrams, 0]);
+}
+
+// The seventh packet has a datagram for each session, and so has the last. Two questions and the
+// end are the other calls.
+#[test]
+fn a_packet_with_four_datagrams_ends_its_burst(rt: HostRuntime) {
+    check_pump(&rt, rt.alloc(), 3, 4, 6);
+    check_pump(&rt, rt.alloc(), 4, 5, 8);
 }
 
 // A connection that notes how many datagrams had left at its last send.

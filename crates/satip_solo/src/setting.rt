@@ -94,6 +94,21 @@ pub fn play(solo: &mut Solo, out: &mut Out) -> Result<u16, Fail> {
     make_request(solo, request(Method::Play), out)
 }
 
+/// Executes the PLAY of the session that `set_up` created as the one of this number, from 1, and
+/// returns its status.
+pub fn play_of(solo: &mut Solo, number: u16, out: &mut Out) -> Result<u16, Fail> {
+    let id = SessionId {
+        count: number as u32,
+        ..FIRST
+    };
+    let play = Request {
+        stream: Some(number),
+        session: SessionName::Named(id),
+        ..request(Method::Play)
+    };
+    make_request(solo, play, out)
+}
+
 /// Executes a DESCRIBE of the first stream, in no session, and returns its status.
 pub fn ask_of_stream(solo: &mut Solo, out: &mut Out) -> Result<u16, Fail> {
     make_request(solo, describe(), out)

@@ -14,7 +14,7 @@ returns-then-not-is_left-clause-taken c = λ first ts e given took.
         room = c.pass.ensures.room;
         work = c.work_of-self.ensures.work;
         packets = c.pass.ensures.packets;
-        datagrams = appended_more _ _ _ load.is_left (nat_le 16 c.count-is_left.result) load.last.now.value c.of.result.value none (search rules) c.append.ensures.bundled.datagrams_are;
+        datagrams = appended_more _ _ _ load.is_left (nat_le 4 c.count-is_left.result) load.last.now.value c.of.result.value none (search rules) c.append.ensures.bundled.datagrams_are;
       },
     )
 
