@@ -52,6 +52,27 @@ fn an_arrival_ends_a_lull(rt: HostRuntime) {
     );
 }
 
+// Returns the milliseconds of ten ticks that take 10 ms each, with a pause after each.
+fn time_ticks(rt: &impl Abort, host: HostRuntime, pacer: &mut impl Pacer) -> u64 {
+    pacer.pause();
+    let begin = Instant::now(&host).expect(rt, "clock");
+    for _ in 0..10 {
+        thread::sleep(&host, Duration::from_millis(10));
+        pacer.pause();
+    }
+    elapsed_ms(rt, host, &begin)
+}
+
+#[test]
+fn a_tickers_pauses_end_20_milliseconds_apart(rt: HostRuntime) {
+    let mut pacer: RealPacer<HostRuntime> = RealPacer::ticking(rt, start(&rt, rt.alloc()));
+    let mut least_ms = u64::MAX;
+    for _ in 0..5 {
+        least_ms = least_ms.min(time_ticks(&rt, rt, &mut pacer));
+    }
+    check_within(&rt, "ten ticks", least_ms, 195, 280);
+}
+
 // Returns the milliseconds that this number of idle receives take.
 fn time_idles(rt: &impl Abort, host: HostRuntime, conn: &mut RealConn, count: u32) -> u64 {
     let begin = Instant::now(&host).expect(rt, "clock");

@@ -95,6 +95,32 @@ fn by_anchor(anchor: Option<Anchor>, place: &Place, now: Instant) -> Option<u64>
     pause_until(place.micros.saturating_sub(anchor.micros), passed)
 }
 
+// The moments at which the ticker's pauses end, 20 ms apart.
+#[derive(Drop)]
+struct Ticks {
+    last: Option<Instant>,
+}
+
+impl Ticks {
+    // Returns the length of the pause that begins now. The next moment is set anew if it is past.
+    fn length(&mut self, host: &HostRuntime) -> Duration {
+        let pause = Duration::from_micros(PAUSE);
+        let Ok(now) = Instant::now(host) else {
+            self.last = None;
+            return pause;
+        };
+        if let Some(due) = self.last.and_then(|last| last.checked_add(pause)) {
+            let left = due.duration_since(now);
+            if !left.is_zero() {
+                self.last = Some(due);
+                return left;
+            }
+        }
+        self.last = now.checked_add(pause);
+        pause
+    }
+}
+
 // The pauses of a pump: by its recording's clock, or until something arrives.
 #[derive(Drop)]
 struct PumpPauses<R: Wait + Drop> {
@@ -111,6 +137,14 @@ impl<R: Wait + Drop> PumpPauses<R> {
     }
 }
 
+// What the pauses of a job follow.
+#[derive(Drop)]
+enum Pauses<R: Wait + Drop> {
+    Worker,
+    Ticker(Ticks),
+    Pump(PumpPauses<R>),
+}
+
 /// A pacer whose pauses last 20 ms, or as long as a recording's clock says. In the second case a
 /// pause ends when the monotonic clock has advanced as much as the recording's clock since both
 /// were set. It lasts at least 1 ms. A pause lasts 20 ms, and the clocks are set again, in these
@@ -123,13 +157,15 @@ impl<R: Wait + Drop> PumpPauses<R> {
 /// again. A lull lasts until something arrives from a client, for up to a second. After an arrival
 /// ten lulls last 20 ms, until the request is answered.
 ///
+/// A ticker's pauses end 20 ms apart, however long a tick takes.
+///
 /// A pause is a step of its job.
 #[derive(Drop)]
 pub struct RealPacer<R: Wait + Drop> {
     host: HostRuntime,
     start: Start,
     pauses: u64,
-    pump: Option<PumpPauses<R>>,
+    kind: Pauses<R>,
 }
 
 impl<R: Wait + Drop> Model for RealPacer<R> {
@@ -141,7 +177,7 @@ impl<R: Wait + Drop> Model for RealPacer<R> {
 }
 
 impl<R: Wait + Drop> RealPacer<R> {
-    /// Creates a pacer of a job that made no pause yet. Its pauses last 20 ms.
+    /// Creates a pacer of a worker that made no pause yet. Its pauses last 20 ms.
     pub fn new(host: HostRuntime, start: Start) -> RealPacer<R>
         ensures none { result ≡ 0 }
     {
@@ -149,7 +185,19 @@ impl<R: Wait + Drop> RealPacer<R> {
             host,
             start,
             pauses: 0,
-            pump: None,
+            kind: Pauses::Worker,
+        }
+    }
+
+    /// Creates a pacer of a ticker that made no pause yet.
+    pub fn ticking(host: HostRuntime, start: Start) -> RealPacer<R>
+        ensures none { result ≡ 0 }
+    {
+        RealPacer {
+            host,
+            start,
+            pauses: 0,
+            kind: Pauses::Ticker(Ticks { last: None }),
         }
     }
 
@@ -169,7 +217,7 @@ impl<R: Wait + Drop> RealPacer<R> {
             host,
             start,
             pauses: 0,
-            pump: Some(PumpPauses {
+            kind: Pauses::Pump(PumpPauses {
                 follower: Follower {
                     progress,
                     anchor: None,
@@ -186,9 +234,10 @@ impl<R: Wait + Drop> Pacer for RealPacer<R> {
 
     fn pause(&mut self) {
         self.start.step(&self.host);
-        match &mut self.pump {
-            Some(pump) => pump.pause(&self.host),
-            None => thread::sleep(&self.host, Duration::from_micros(PAUSE)),
+        match &mut self.kind {
+            Pauses::Worker => thread::sleep(&self.host, Duration::from_micros(PAUSE)),
+            Pauses::Ticker(ticks) => thread::sleep(&self.host, ticks.length(&self.host)),
+            Pauses::Pump(pump) => pump.pause(&self.host),
         }
         self.pauses = self.pauses.saturating_add(1);
     }

@@ -142,7 +142,7 @@ impl Shared {
     ) -> Result<RealPacer<R>, KitsFault>
         ensures none { IfOk result (λ pacer. pacer ≡ 0) }
     {
-        Ok(RealPacer::new(host, Start::counting(&self.starts)?))
+        Ok(RealPacer::ticking(host, Start::counting(&self.starts)?))
     }
 }
 
