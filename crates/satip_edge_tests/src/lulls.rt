@@ -31,7 +31,7 @@ fn idle_pump<R: Wait + Drop>(
 // Lets 50 ms pass, and counts an arrival.
 fn arrive(host: HostRuntime, arrivals: &Arrivals) {
     thread::sleep(&host, Duration::from_millis(50));
-    arrivals.add(&host);
+    arrivals.add();
 }
 
 #[test]
