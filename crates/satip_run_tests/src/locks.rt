@@ -201,7 +201,10 @@ fn work<R: Wait + Sync + Abort>(
 
 // A store with a recording of this number of packets.
 fn store(rt: &impl Abort, alloc: Global, packets: usize) -> MemoryStore {
-    let text = given(rt, repeated(alloc, &[(packet_bytes(16).as_slice(), packets)]));
+    let text = given(
+        rt,
+        repeated(alloc, &[(packet_bytes(16).as_slice(), packets)]),
+    );
     let mut store = MemoryStore::make(alloc, &[]).expect(rt, "out of memory");
     store.add(1, &text, &[], &[]).expect(rt, "out of memory");
     store
@@ -254,7 +257,12 @@ fn run_jobs<R: Wait + Sync + Abort>(
         &work(rt, alloc, solo, tally),
         &WorkerEnd::Closed,
     );
-    check(rt, "pump", &pump(rt, alloc, solo, tally, 7), &JobEnd::Stopped);
+    check(
+        rt,
+        "pump",
+        &pump(rt, alloc, solo, tally, 7),
+        &JobEnd::Stopped,
+    );
     check(
         rt,
         "ticker",
