@@ -10,8 +10,8 @@ use satip_plain::{Answer, Event, Lot, Work};
 use satip_ts::Packet;
 use std::snapshot::Snapshot;
 
-/// The least count of datagrams that are sent from the output of their event. To copy fewer costs
-/// less than a burst that ends early.
+/// The least count of datagrams that are sent from the output of their event. That saves their copy
+/// into the batch, and takes one turn more.
 const MANY: usize = 4;
 
 /// Gives the waiting packets as events of a front end for one tune number. It goes on while the

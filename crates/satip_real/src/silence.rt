@@ -1,4 +1,4 @@
-//! When a client that sends nothing is given up.
+//! When a client that sends nothing is given up, and how long it is waited for.
 
 use crate::listeners::Listeners;
 use satip_host::Stopwatch;
