@@ -1,6 +1,8 @@
-//! Reads the session clock and random bytes, and writes lines for people to standard error.
+//! Reads the session clock and random bytes, counts what arrives from clients, and writes lines for
+//! people to standard error.
 //! Contract: none on what is read or written.
-//! Only tested: that no step of the wall clock moves the session clock, and that keys differ.
+//! Only tested: that no step of the wall clock moves the session clock, that keys differ, and that
+//! an arrival ends a wait for it.
 #![tactic(auto)]
 
 mod arrivals;

@@ -1,7 +1,7 @@
 //! Reads recordings from files and pauses so that each plays at its own rate (ISO 13818-1).
 //! Contract: a store and a pacer begin with counts of 0 and meet their traits. A packet's clock
 //! reference, and the time left until a moment, are their definitions.
-//! Only tested: which bytes the files give, and the rate.
+//! Only tested: which bytes the files give, the rate, and the length of each pause.
 #![tactic(auto)]
 
 mod lull;
