@@ -259,6 +259,25 @@ fn a_client_that_still_sends_gets_its_last_reply(rt: HostRuntime) {
     check(&rt, "its reply", asker.join(&rt), true);
 }
 
+#[test]
+fn bytes_and_the_end_of_doors_are_arrivals(rt: HostRuntime) {
+    let arrivals = no_arrivals(&rt, rt);
+    let counted = Arc::try_clone(&arrivals).expect(&rt, "another owner");
+    let listeners = Listeners::bind(&rt, LOCALHOST, 0, 0, 8, counted).expect(&rt, "listeners");
+    let rtsp = socket_addr(1, listeners.rtsp_port().expect(&rt, "port"));
+    let listeners = Arc::new(rt.alloc(), listeners).expect(&rt, "out of memory");
+    let mut doors = RealDoors::new(rt, start(&rt, rt.alloc()), listeners, 60, 1);
+    let mut client = connect(&rt, rt, rtsp);
+    let (kind, peer, mut conn) = next_client(&rt, &mut doors);
+    check(&rt, "no byte yet", arrivals.count(), 0);
+    client.write_all(b"a").expect(&rt, "a byte");
+    check_received(&rt, "byte", &mut conn, &[Received::Got(1)]);
+    check(&rt, "a byte", arrivals.count(), 1);
+    doors.back(conn, kind, peer, ConnEnd::ReadFault);
+    check_end(&rt, "doors", &mut doors);
+    check(&rt, "the end", arrivals.count(), 2);
+}
+
 // Returns the listener that can't be bound.
 fn bind_fault(rt: &impl Abort, host: HostRuntime, ip: u32, http_port: u16) -> &'static str {
     match Listeners::bind(&host, ip, 0, http_port, 8, no_arrivals(rt, host)) {
