@@ -2,6 +2,9 @@
 
 import re
 import socket
+import time
+
+from . import configuration
 
 RTSP_PORT = 554
 BLANK = b"\r\n\r\n"
@@ -11,6 +14,14 @@ PIECE = 65536
 
 class Refused(ConnectionError):
     """A request that has another status than 200."""
+
+
+def server_of(text):
+    """The RTSP address and port of ADDRESS, ADDRESS:PORT or the path of a configuration."""
+    if "/" in text or text.endswith(".toml"):
+        address, port, _ = configuration.read(text).server()
+        return "127.0.0.1" if address == "0.0.0.0" else address, port
+    return address_of(text)
 
 
 def address_of(text):
@@ -33,10 +44,14 @@ def inside():
 
 
 class Rtsp:
-    """One connection, on which requests are sent one after another. Frames between replies are dropped."""
+    """One connection, on which requests are sent one after another.
 
-    def __init__(self, address, port=RTSP_PORT, timeout=5):
+    Frames between replies go to `take_frame`, with their channel and their bytes.
+    """
+
+    def __init__(self, address, port=RTSP_PORT, timeout=5, take_frame=None):
         self.line = socket.create_connection((address, port), timeout)
+        self.take_frame = take_frame or (lambda channel, data: None)
         self.base = f"rtsp://{address}:{port}/"
         self.count, self.buffer = 0, b""
 
@@ -52,11 +67,15 @@ class Rtsp:
         first = f"{method} {target} RTSP/1.0\r\nCSeq: {self.count}"
         self.line.sendall("\r\n".join((first, *headers, "\r\n")).encode())
         while (reply := self.cut_reply()) is None:
-            piece = self.line.recv(PIECE)
-            if not piece:
-                raise ConnectionError("the server ended the connection")
-            self.buffer += piece
+            self.receive()
         return reply
+
+    def receive(self):
+        """Reads what has come."""
+        piece = self.line.recv(PIECE)
+        if not piece:
+            raise ConnectionError("the server ended the connection")
+        self.buffer += piece
 
     def must(self, method, target, *headers):
         """Sends a request that has to be answered with 200."""
@@ -80,6 +99,7 @@ class Rtsp:
             end = 4 + int.from_bytes(self.buffer[2:4], "big")
             if len(self.buffer) < end:
                 return None
+            self.take_frame(self.buffer[1], self.buffer[4:end])
             self.buffer = self.buffer[end:]
         if self.buffer.startswith(b"$") or BLANK not in self.buffer:
             return None
@@ -110,3 +130,11 @@ def pair_of_ports(address):
                 second.close()
         first.close()
     raise ConnectionError("no pair of UDP ports is free")
+
+
+def options(server, timeout):
+    """The seconds until a new client had its OPTIONS answered; raises OSError if it hadn't."""
+    begun = time.monotonic()
+    with Rtsp(*server, timeout) as client:
+        client.must("OPTIONS", "*")
+    return time.monotonic() - begun
