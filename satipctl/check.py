@@ -38,6 +38,7 @@ def add_words(words):
     words.add_argument("--user", help="the user that has to be able to read the recordings")
     words.add_argument("--no-ports", action="store_true", help="for a server that runs already")
     words.add_argument("--wait-for-ports", metavar="SECONDS", type=float, default=0)
+    words.add_argument("--allow-warnings", action="store_true", help="status 0 if there are only these")
     words.add_argument("--quiet", action="store_true", help="says nothing if nothing is wrong")
 
 
@@ -55,7 +56,7 @@ def run(given):
     status = max((1 if it.is_warning else 2 for it in found), default=0)
     if status or not given.quiet:
         print(f"{given.config}: {summary(config, found, status)}")
-    return status
+    return 0 if status == 1 and given.allow_warnings else status
 
 
 def summary(config, found, status):
