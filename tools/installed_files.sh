@@ -33,8 +33,11 @@ for file in "$top"/satipctl/*.py "$top"/satipctl/*.html "$top"/satipctl/journal/
     put 644 "$file" "lib/satip/${file#"$top"/}"
 done
 put 644 "$top/examples/satip.schema.json" lib/satip/satip.schema.json
-put 644 "$top/docs/satip.1" share/man/man1/satip.1
-put 644 "$top/docs/satipctl.1" share/man/man1/satipctl.1
+for name in satip.1 satipctl.1; do
+    put 644 "$top/docs/$name" "share/man/man1/$name"
+    # Pages and --help name them so.
+    put 644 "$top/docs/$name" "share/doc/satip/docs/$name"
+done
 for name in USING.md SYSTEM.md SCALING.md PROTOCOL.md; do
     page "$name"
 done
