@@ -83,7 +83,7 @@ def pace_text(rate):
     return f"plays {max(factor, 1 / factor):.1f} times too {way} without SATIP_PACE=recording"
 
 
-def taken(paths):
+def taken(paths, probe=probe):
     """The recordings that can be played, and whether each file is one; says what each file is."""
     recordings, whole = [], True
     for path in paths:
