@@ -336,14 +336,14 @@ def status_json(second):
                 "address": "192.168.1.20:1400",
                 "datagrams": 450 * second,
                 "bytes": 600_000 * second,
-                "refused": {"unreachable": 0, "no room": 2},
+                "refused": {"unheard": 0, "no room": 2},
             },
             {"address": "192.168.1.20:1401", "datagrams": 5 * second, "bytes": 300 * second, "refused": {}},
             {
                 "address": "192.168.1.22:1500",
                 "datagrams": 5,
                 "bytes": 300,
-                "refused": {"unreachable": 4 * second},
+                "refused": {"unheard": 4 * second},
             },
             {"address": "192.168.1.23:1600", "datagrams": 70, "bytes": 90_000, "refused": {}},
         ],
@@ -397,7 +397,7 @@ class Watched(InAFolder):
             },
         )
         self.assertEqual(told["rate"], 8_800_000)
-        self.assertEqual(told["refused_datagrams"], {"unreachable": 48, "no room": 2})
+        self.assertEqual(told["refused_datagrams"], {"unheard": 48, "no room": 2})
         front = told["front_ends"][0]
         self.assertEqual((front["file"], front["rate"], front["restarts"]), ("news.ts", 4_812_800, 1))
 
@@ -406,7 +406,7 @@ class Watched(InAFolder):
         self.assertEqual(status, 0)
         for line in (
             r"satip 0\.2\.0, up 0:00:12, since 2026-12-02T03:30:00Z",
-            r"sends 8\.80 Mbit/s; .*, refused: descriptors 1; datagrams refused: unreachable 48, no room 2",
+            r"sends 8\.80 Mbit/s; .*, refused: descriptors 1; datagrams refused: unheard 48, no room 2",
             r"1 +news\.ts +4\.81 Mbit/s +1 +0\.25 s",
             r"192\.168\.1\.21:40001 +HTTP +1:01:01 +4\.00 Mbit/s +6\.0 MB",
             r"192\.168\.1\.22:1500 +RTP +0\.0 kbit/s +300 B +48",
@@ -452,7 +452,7 @@ class Watched(InAFolder):
             "satip_up 1.0",
             "satip_uptime_seconds 10.0",
             'satip_datagram_bytes_total{destination="192.168.1.20:1400"} 6e+06',
-            'satip_datagrams_refused_total{cause="unreachable",destination="192.168.1.22:1500"} 40.0',
+            'satip_datagrams_refused_total{cause="unheard",destination="192.168.1.22:1500"} 40.0',
             'satip_front_end_packets_total{front_end="1",recording="news.ts"} 32000.0',
             'satip_connection_sent_bytes_total{client="192.168.1.21:40001",kind="http"} 5e+06',
         ):
