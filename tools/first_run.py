@@ -25,7 +25,7 @@ import tomllib
 sys.dont_write_bytecode = True
 TOP = os.path.dirname(os.path.dirname(os.path.abspath(__file__)))
 sys.path.insert(0, TOP)
-from satipctl import channels, new_config, recordings
+from satipctl import channels, new_config, recordings  # noqa: E402
 
 CARDS = [os.path.join(TOP, "examples/recordings", name) for name in ("card_1.ts", "card_2.ts")]
 CONFIG, PLAYLIST = "satip.toml", "channels.m3u"
