@@ -6,9 +6,9 @@
 The package is installed on a fresh Debian system, as by trials/install_package.py. Two instances of
 satip@.service with the same ports follow each other while a viewer reads: it misses no byte, and a
 new viewer is served meanwhile. A stop that is asked for stays one, SIGHUP and SIGKILL don't, and a
-stop file that is left behind stops no later start. A recording that is replaced by rename is played
-by the next tuning. `journal` runs as an instance, and `audit` judges what it wrote. A configuration
-that can't be served is told by systemctl, and served once it is mended.
+stop file that is left behind stops no later start. An upgrade cuts no viewer. A recording that is
+replaced by rename is played by the next tuning. `journal` runs as an instance, and `audit` judges
+what it wrote. A configuration that can't be served is told by systemctl, and served once mended.
 
 Needs the built program (trials/lib/server.py), and what trials/install_package.py needs.
 
@@ -130,6 +130,17 @@ class Trial:
             took = self.system.wait_until_active(pid, "satip@new")
             self.check(took is not None, f"after SIG{name} it is active again in {seconds(took)}")
 
+    def upgrade(self, package):
+        """The package is installed once more under a viewer."""
+        viewer, pid = self.viewer(8), self.system.service("MainPID", "satip@new")
+        time.sleep(1)
+        ran = self.system.inside("dpkg", "-i", f"/root/{package}")
+        told = viewer.communicate()[0].split()
+        same = ran.returncode == 0 and self.system.service("MainPID", "satip@new") == pid
+        self.check(same and "serves on until" in ran.stdout, "an upgrade restarts nothing, and says so")
+        whole = told[:1] == ["whole"] and told[2:] == ["stays"]
+        self.check(whole, f"a viewer misses nothing of it: {told}")
+
     def recording(self):
         """A recording of other packets takes the name of the one that plays."""
         viewer = self.viewer(4)
@@ -207,6 +218,7 @@ def main():
             trial.stop_by_satipctl()
             trial.left_behind()
             trial.signals()
+            trial.upgrade(package)
             trial.recording()
             system.inside("systemctl", "stop", "satip@new")
             trial.journal()
