@@ -2,7 +2,7 @@
 
 from dataclasses import dataclass
 
-PACKET, SYNC, HEAD = 188, 0x47, 4 << 20
+PACKET, SYNC, HEAD = 188, 0x47, 1 << 20
 CLOCK_HZ = 27_000_000
 # The program clock reference begins again after 2^33 ticks of 90 kHz.
 WRAP = (1 << 33) * 300
@@ -26,7 +26,7 @@ def clock(packet):
 
 
 def look(path):
-    """What the first 4 MiB of a recording say."""
+    """What the first MiB of a recording says."""
     with open(path, "rb") as file:
         head = file.read(HEAD)
     if len(head) < PACKET:

@@ -44,6 +44,7 @@ done
 put 644 "$top/docs/journal.png" share/doc/satip/docs/journal.png
 put 644 "$top/examples/satipctl.bash" share/bash-completion/completions/satipctl
 for file in "$top"/examples/*; do
+    [ -f "$file" ] || continue
     case $file in
     *.service | *.bash) ;;
     *) put 644 "$file" "share/doc/satip/examples/${file##*/}" ;;

@@ -11,21 +11,25 @@ Packages: ffmpeg prometheus python3-jsonschema python3-prometheus-client python3
 Limit: 300 s
 """
 
+import argparse
 import contextlib
 import io
+import json
 import os
 import random
+import re
 import socket
 import subprocess
 import sys
 import tempfile
+import threading
 import unittest
 
 sys.dont_write_bytecode = True
 TOP = os.path.dirname(os.path.dirname(os.path.abspath(__file__)))
 sys.path[:0] = [TOP]
 from lib.server import program
-from satipctl import check, command, configuration, packets
+from satipctl import command, configuration, packets, status_file, watch
 
 GOOD = """\
 address = "127.0.0.1"
@@ -307,6 +311,241 @@ class SchemaAndProgram(InAFolder):
     def test_the_example_names_the_schema(self):
         with open(os.path.join(TOP, "examples", "satip.toml"), encoding="utf-8") as file:
             self.assertEqual(file.readline(), "#:schema satip.schema.json\n")
+
+
+def status_json(second):
+    """A status file after some seconds of two viewers by RTP, of which one refuses, and one by HTTP."""
+    return {
+        "version": "0.2.0",
+        "start": "2026-12-02T03:30:00Z",
+        "uptime": float(second),
+        "connections": {"open": 2, "taken": 7, "refused": {"silent": 0, "descriptors": 1}},
+        "lines": 3,
+        "clients": [
+            {"address": "192.168.1.20:40000", "kind": "rtsp", "age": 9.5, "sent": 900, "received": 700},
+            {
+                "address": "192.168.1.21:40001",
+                "kind": "http",
+                "age": 3661.5,
+                "sent": 500_000 * second,
+                "received": 120,
+            },
+        ],
+        "destinations": [
+            {
+                "address": "192.168.1.20:1400",
+                "datagrams": 450 * second,
+                "bytes": 600_000 * second,
+                "refused": {"unheard": 0, "no room": 2},
+            },
+            {"address": "192.168.1.20:1401", "datagrams": 5 * second, "bytes": 300 * second, "refused": {}},
+            {
+                "address": "192.168.1.22:1500",
+                "datagrams": 5,
+                "bytes": 300,
+                "refused": {"unheard": 4 * second},
+            },
+            {"address": "192.168.1.23:1600", "datagrams": 70, "bytes": 90_000, "refused": {}},
+        ],
+        "front_ends": [
+            {"number": 1, "recording": "news.ts", "packets": 3200 * second, "restarts": 1, "behind": 0.25},
+            {"number": 2, "recording": None, "packets": 0, "restarts": 0, "behind": 0.0},
+        ],
+    }
+
+
+DESCRIPTION = (
+    "RTSP/1.0 200 OK\r\nCSeq: 1\r\n\r\nv=0\r\no=- 1 1 IN IP4 127.0.0.1\r\ns=SatIPServer:1 2\r\nt=0 0\r\n"
+    "m=video 0 RTP/AVP 33\r\nc=IN IP4 0.0.0.0\r\na=control:stream=1\r\na=fmtp:33 ver=1.0;src=1;"
+    "tuner=1,240,1,15,11361.75,h,dvbs2,,,,22000,;pids=0,16,17\r\na=sendonly\r\n"
+    "m=video 0 RTP/AVP 33\r\nc=IN IP4 0.0.0.0\r\na=control:stream=2\r\na=fmtp:33 ver=1.0;src=1;"
+    "tuner=0,0,0,0,,,,,,,,;pids=none\r\na=inactive\r\n"
+)
+
+
+class Watched(InAFolder):
+    """A status file that is written twice a second apart; addresses and rates are those above."""
+
+    def write_status(self, second):
+        self.write(json.dumps(status_json(second)), "made")
+        os.rename(self.path("made"), self.path("status"))
+
+    def setUp(self):
+        super().setUp()
+        self.write_status(10)
+        self.words = ["--status-file", self.path("status"), self.path("none.toml")]
+
+    def run_while_written(self, *words):
+        later = threading.Timer(0.3, self.write_status, (12,))
+        later.start()
+        self.addCleanup(later.join)
+        return self.run_words(*words, *self.words)
+
+    def test_json(self):
+        status, out, errors = self.run_while_written("status", "--json")
+        self.assertEqual((status, errors), (0, ""))
+        told = json.loads(out)
+        rates = {it["address"]: (it["kind"], it["rate"], it["refused"]) for it in told["viewers"]}
+        # 1,200,000 bytes in two seconds are 4.8 Mbit/s. Who got nothing and refused nothing has left.
+        self.assertEqual(
+            rates,
+            {
+                "192.168.1.20:1400": ("RTP", 4_800_000, 2),
+                "192.168.1.22:1500": ("RTP", 0, 48),
+                "192.168.1.20:40000": ("RTSP", 0, 0),
+                "192.168.1.21:40001": ("HTTP", 4_000_000, 0),
+            },
+        )
+        self.assertEqual(told["rate"], 8_800_000)
+        self.assertEqual(told["refused_datagrams"], {"unheard": 48, "no room": 2})
+        front = told["front_ends"][0]
+        self.assertEqual((front["file"], front["rate"], front["restarts"]), ("news.ts", 4_812_800, 1))
+
+    def test_text(self):
+        status, out, _ = self.run_while_written("status")
+        self.assertEqual(status, 0)
+        for line in (
+            r"satip 0\.2\.0, up 0:00:12, since 2026-12-02T03:30:00Z",
+            r"sends 8\.80 Mbit/s; .*, refused: descriptors 1; datagrams refused: unheard 48, no room 2",
+            r"1 +news\.ts +4\.81 Mbit/s +1 +0\.25 s",
+            r"192\.168\.1\.21:40001 +HTTP +1:01:01 +4\.00 Mbit/s +6\.0 MB",
+            r"192\.168\.1\.22:1500 +RTP +0\.0 kbit/s +300 B +48",
+        ):
+            self.assertRegex(out, line)
+
+    def test_a_server_that_began_again_has_no_rates_of_the_old_one(self):
+        before, now = (status_file.from_json(status_json(it)) for it in (10, 2))
+        now.start = "2026-12-02T04:00:00Z"
+        given = argparse.Namespace(status_file=self.path("status"), config="", no_describe=True)
+        seen = watch.Watch(given)
+        seen.last = before
+        self.write(json.dumps(status_json(2) | {"start": now.start}), "status")
+        self.assertEqual(seen.next().to_json()["rate"], 0)
+
+    def test_a_file_that_is_not_written_any_more(self):
+        status, _, errors = self.run_words("status", *self.words)
+        self.assertEqual(status, 1)
+        self.assertIn("not written for 3 s", errors)
+
+    def test_no_file_and_a_strange_one(self):
+        self.write("{}", "status")
+        self.assertEqual(self.run_words("status", *self.words)[0], 2)
+        os.remove(self.path("status"))
+        status, _, errors = self.run_words("status", *self.words)
+        self.assertEqual(status, 2)
+        self.assertIn("no status file", errors)
+
+    def test_streams(self):
+        first, second = watch.streams_of(DESCRIPTION)
+        told = "11361.75 MHz h, dvbs2, 22000 kS/s, position 1"
+        self.assertEqual(first, watch.Stream(1, 1, told, "0,16,17", True))
+        self.assertEqual(second, watch.Stream(2, 0, "untuned", "none", False))
+
+    def test_metrics(self):
+        status, out, _ = self.run_words("metrics", *self.words)
+        self.assertEqual(status, 0)
+        ran = subprocess.run(
+            ["promtool", "check", "metrics"], input=out, capture_output=True, text=True, check=False
+        )
+        self.assertEqual((ran.returncode, ran.stderr), (0, ""))
+        for line in (
+            "satip_up 1.0",
+            "satip_uptime_seconds 10.0",
+            'satip_datagram_bytes_total{destination="192.168.1.20:1400"} 6e+06',
+            'satip_datagrams_refused_total{cause="unheard",destination="192.168.1.22:1500"} 40.0',
+            'satip_front_end_packets_total{front_end="1",recording="news.ts"} 32000.0',
+            'satip_connection_sent_bytes_total{client="192.168.1.21:40001",kind="http"} 5e+06',
+        ):
+            self.assertIn(line, out.splitlines())
+
+    def test_metrics_of_no_server(self):
+        os.remove(self.path("status"))
+        out = self.run_words("metrics", *self.words)[1]
+        self.assertIn("satip_up 0.0\n", out)
+
+    def test_alerts_and_the_dashboard_name_the_metrics(self):
+        out = self.run_words("metrics", *self.words)[1] + "satip_streams "
+        known = set(re.findall(r"^satip_\w+", out, re.M)) | {"satip_streams"}
+        for name in ("alerts.yml", "grafana.json"):
+            with open(os.path.join(TOP, "examples", name), encoding="utf-8") as file:
+                used = set(re.findall(r"\bsatip_\w+", file.read()))
+            self.assertLessEqual(used, known, name)
+            self.assertGreater(len(used), 4)
+
+    def test_alerts(self):
+        with open(os.path.join(TOP, "trials", "lib", "alerts_test.yml"), encoding="utf-8") as file:
+            text = file.read().replace("ALERTS", os.path.join(TOP, "examples", "alerts.yml"))
+        words = ["promtool", "test", "rules", self.write(text, "alerts_test.yml")]
+        ran = subprocess.run(words, capture_output=True, text=True, check=False)
+        self.assertEqual(ran.returncode, 0, ran.stdout + ran.stderr)
+
+
+class Stop(InAFolder):
+    # Ends with status 0 when its stop file is there, and says what was in it.
+    SERVER = "import os, sys, time\nwhile not os.path.exists(sys.argv[2]): time.sleep(0.05)\n"
+    SERVER += "print(open(sys.argv[2]).read())"
+
+    def start(self, script):
+        words = [sys.executable, "-c", script, "serve", self.path("stop")]
+        process = subprocess.Popen(words, stdout=subprocess.PIPE, text=True)
+        self.addCleanup(process.wait)
+        self.addCleanup(process.stdout.close)
+        self.addCleanup(process.kill)
+        return process
+
+    def stop(self, process, *words):
+        files = ["--stop-file", self.path("stop"), "--status-file", self.path("status")]
+        return self.run_words("stop", *files, "--pid", str(process.pid), *words)
+
+    def test_it_waits_for_the_end_and_removes_the_file(self):
+        for words, text in (((), ""), (("--after", "7"), "7\n")):
+            process = self.start(self.SERVER)
+            status, out, errors = self.stop(process, *words)
+            self.assertEqual((status, out, errors), (0, "ended\n", ""))
+            self.assertEqual(process.stdout.read(), text + "\n")
+            self.assertFalse(os.path.exists(self.path("stop")))
+
+    def test_one_that_does_not_end(self):
+        process = self.start("import time; time.sleep(30)")
+        status, _, errors = self.stop(process, "--limit", "0.5")
+        self.assertEqual(status, 1)
+        self.assertIn("hasn't ended within 0.5 s", errors)
+        self.assertFalse(os.path.exists(self.path("stop")))
+
+    def test_no_server(self):
+        status, _, errors = self.run_words("stop", "--stop-file", self.path("stop"))
+        self.assertEqual(status, 2)
+        self.assertIn("no server with SATIP_STOP=", errors)
+        self.assertFalse(os.path.exists(self.path("stop")))
+
+    def test_seconds_that_a_server_would_not_take(self):
+        for after in ("-1", "86401", "x", "1.5"):
+            self.assertEqual(self.run_words("stop", "--after", after)[0], 2)
+
+
+class Completion(unittest.TestCase):
+    def complete(self, *words):
+        """What bash offers for the last word."""
+        script = f". {TOP}/examples/satipctl.bash; COMP_WORDS=({' '.join(words)!s} ''); "
+        script += "COMP_CWORD=$((${#COMP_WORDS[@]} - 1)); _satipctl; echo ${COMPREPLY[@]}"
+        ran = subprocess.run(["bash", "-c", script], capture_output=True, text=True, check=True)
+        return ran.stdout.split()
+
+    def test_it_knows_each_subcommand(self):
+        names = {name.split()[0] for name in command.COMMANDS}
+        self.assertEqual(set(self.complete("satipctl")), names | {"--help"})
+        self.assertEqual(self.complete("satipctl", "journal"), ["page", "print"])
+
+    def test_it_knows_each_option(self):
+        for name in command.COMMANDS:
+            options = {
+                it for action in command.parser_of(name)[1]._actions for it in action.option_strings
+            }
+            script = f". {TOP}/examples/satipctl.bash; COMP_WORDS=(satipctl {name} --); "
+            script += "COMP_CWORD=$((${#COMP_WORDS[@]} - 1)); _satipctl; echo ${COMPREPLY[@]}"
+            ran = subprocess.run(["bash", "-c", script], capture_output=True, text=True, check=True)
+            with self.subTest(name):
+                self.assertEqual(set(ran.stdout.split()), options - {"-h"})
 
 
 class CommandLine(InAFolder):
