@@ -119,7 +119,10 @@ fn ask_and_read(host: HostRuntime, client: TcpStream, ends: bool) -> (TcpStream,
 #[test]
 fn input_that_comes_while_a_send_waits_is_heard(rt: HostRuntime) {
     let text = vec![in rt.alloc(); 7; REPLY].expect(&rt, "out of memory");
-    for (name, ends, last) in [("ends", true, Received::End), ("goes on", false, Received::Idle)] {
+    for (name, ends, last) in [
+        ("ends", true, Received::End),
+        ("goes on", false, Received::Idle),
+    ] {
         let (_doors, client, (_, _, mut conn)) = meet(&rt, rt, 60);
         check(&rt, name, conn.receive(&mut [0; 16]), Received::Idle);
         let (put, (client, whole)) = thread::join(
