@@ -7,10 +7,11 @@ ghost use Rattle.satip_base.specs.Streams.{fresh_feed};
 use crate::fault::KitsFault;
 use crate::kits::{RealJobs, real_kits};
 use satip_base::{Address, Failed, Peer, ReadSource, Sink, Source, Taken, Text, WriteSink};
+use satip_datagrams::{RealInlet, RealOutlet};
 use satip_desk::{Desk, Devices, JobJournal, JobsFault};
 use satip_host::RealClock;
 use satip_playout::{RealPacer, RealStore};
-use satip_real::{RealConn, RealDoors, RealInlet, RealOutlet};
+use satip_real::{Carried, RealConn, RealDoors};
 use satip_tune::Config;
 use std::alloc::Global;
 use std::fs::File;
@@ -52,6 +53,7 @@ impl Source for ConfigFile {
 pub struct RealDesk<R: Wait + Copy + Drop + Send> {
     host: HostRuntime,
     rt: R,
+    carried: Carried,
     given: Option<Snapshot<RealJobs<R>>>,
     dialed: Option<Address>,
     bound: bool,
@@ -61,8 +63,9 @@ pub struct RealDesk<R: Wait + Copy + Drop + Send> {
 }
 
 impl<R: Wait + Copy + Drop + Send> RealDesk<R> {
-    /// Creates a desk that never failed and gave nothing.
-    pub fn new(host: HostRuntime, rt: R) -> RealDesk<R>
+    /// Creates a desk that never failed and gave nothing. The RTSP connections of its server carry
+    /// this.
+    pub fn new(host: HostRuntime, rt: R, carried: Carried) -> RealDesk<R>
         ensures given { result.given ≡ None }
         ensures dialed { result.dialed ≡ None }
         ensures bound { result.bound ≡ false }
@@ -73,6 +76,7 @@ impl<R: Wait + Copy + Drop + Send> RealDesk<R> {
         RealDesk {
             host,
             rt,
+            carried,
             given: None,
             dialed: None,
             bound: false,
@@ -156,7 +160,7 @@ impl<R: Wait + Copy + Drop + Send> Desk for RealDesk<R> {
         config: &Config,
         accepts: u32,
     ) -> Result<RealJobs<R>, JobsFault> {
-        match real_kits(self.host, self.rt, config, accepts) {
+        match real_kits(self.host, self.rt, config, accepts, self.carried) {
             Ok(jobs) => {
                 self.given = Some(Snapshot::of(&jobs));
                 Ok(jobs)
