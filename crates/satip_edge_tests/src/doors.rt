@@ -16,8 +16,8 @@ use std::sync::{Arc, Wait};
 use std::thread;
 use std::thread::Threads;
 
-// Turns of the doors until one is another than Idle.
-fn next_come(doors: &mut RealDoors) -> Door<RealConn> {
+/// Turns of the doors until one is another than Idle.
+pub(crate) fn next_come(doors: &mut RealDoors) -> Door<RealConn> {
     for _ in 0..100 {
         match doors.next() {
             Door::Idle => (),
@@ -30,8 +30,8 @@ fn next_come(doors: &mut RealDoors) -> Door<RealConn> {
 /// What doors say of a client, and its connection.
 pub(crate) type Came = (DoorKind, Peer, RealConn);
 
-// Returns the next client at the doors.
-fn next_client(rt: &impl Abort, doors: &mut RealDoors) -> Came {
+/// Returns the next client at the doors.
+pub(crate) fn next_client(rt: &impl Abort, doors: &mut RealDoors) -> Came {
     match next_come(doors) {
         Door::Came { kind, peer, conn } => (kind, peer, conn),
         _ => panic!(rt; "no connection"),

@@ -21,3 +21,5 @@ mod recordings;
 mod sending;
 #[cfg(test)]
 mod sockets;
+#[cfg(test)]
+mod stops;

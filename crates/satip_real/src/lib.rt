@@ -18,6 +18,7 @@ mod outlet;
 mod readiness;
 mod sending;
 mod silence;
+mod tallies;
 
 pub use connection::RealConn;
 pub use doors::RealDoors;

@@ -63,6 +63,16 @@ impl Silence {
         self.waits = 0;
     }
 
+    /// Returns whether the connection has to end, since the server was asked to.
+    pub(crate) fn has_to_end(&self) -> bool {
+        self.listeners.is_over()
+    }
+
+    /// Returns a wait of this length, or a shorter one if the server may be asked to end.
+    pub(crate) fn cut_ms(&self, wait_ms: i32) -> i32 {
+        self.listeners.wait_ms(wait_ms)
+    }
+
     /// Returns the length of the next wait in milliseconds, and counts it.
     pub(crate) fn wait_ms(&mut self) -> i32 {
         let reads_stream = self.kind == DoorKind::Http && self.was_answered;

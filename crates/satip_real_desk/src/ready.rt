@@ -4,7 +4,7 @@ use crate::fault::KitsFault;
 use crate::settings::Settings;
 use crate::shared::Shared;
 use satip_base::Text;
-use satip_host::{Shown, report_line};
+use satip_host::{Shown, report_notice};
 use satip_playout::{RealStore, RecordingFault};
 use satip_tune::Config;
 use std::alloc::Global;
@@ -39,7 +39,7 @@ fn refused(alloc: Global, mux: u16, name: &Text, fault: RecordingFault) -> KitsF
 
 /// Logs in one line on standard error where a server listens, and what it plays.
 pub(crate) fn report_ready(host: &HostRuntime, config: &Config, shared: &Shared, lengths: &[u64]) {
-    report_line(
+    report_notice(
         host,
         Ready {
             address: Ipv4Addr::from(config.address),
