@@ -5,7 +5,7 @@ use crate::doors::{Came, next_client, next_come, start};
 use crate::sockets::{LOCALHOST, check_heard, check_received, connect, listen, no_arrivals, socket_addr};
 use satip_base::Text;
 use satip_host::Stop;
-use satip_real::{Listeners, RealDoors};
+use satip_real::{Carried, Listeners, RealDoors};
 use satip_world::{Conn, ConnEnd, Door, Doors, Received};
 use std::io::Write;
 use std::net::TcpStream;
@@ -72,7 +72,8 @@ fn open(rt: &impl Abort, host: HostRuntime, file: &StopFile) -> Server {
 fn check_end(rt: &impl Abort, host: HostRuntime, doors: &mut RealDoors, ports: (u16, u16)) {
     check(rt, "end", matches!(next_come(doors), Door::End), true);
     let arrivals = no_arrivals(rt, host);
-    let successor = Listeners::bind(&host, LOCALHOST, ports.0, ports.1, 8, arrivals);
+    let (rtsp, http) = ports;
+    let successor = Listeners::bind(&host, LOCALHOST, rtsp, http, 8, arrivals, Carried::Replies);
     check(rt, "the ports are free", successor.is_ok(), true);
 }
 

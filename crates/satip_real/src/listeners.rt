@@ -1,11 +1,11 @@
 //! The two listeners of the server.
 
-use crate::addresses::{peer_of, socket_addr};
-use crate::errors::{ends_listening, is_passing};
+use crate::errors::ends_listening;
 use crate::readiness::have_input;
 use libc::net as c;
 use mio::net::{TcpListener, TcpStream};
 use satip_base::{Address, Peer};
+use satip_datagrams::{peer_of, socket_addr};
 use satip_host::{Arrivals, Stop, Throttle};
 use satip_world::DoorKind;
 use std::io;
@@ -18,7 +18,7 @@ use std::sync::atomic::{AtomicBool, Ordering};
 // bytes of one.
 const LOOK_MS: i32 = 1000;
 
-const STOP_WAIT_MS: i32 = 250;
+const STOP_WAIT_MS: u64 = 250;
 
 /// The listeners for RTSP and for HTTP, which all doors of the server share.
 #[derive(Drop)]
@@ -27,9 +27,21 @@ pub struct Listeners {
     http: TcpListener,
     pub(crate) shortages: Throttle,
     pub(crate) arrivals: Arc<Arrivals>,
+    pub(crate) carried: Carried,
+    // Whether a client that ended no message was given up, and others waited since then.
+    crowded: AtomicBool,
     // What asks the server to end, if there is something, and whether both are closed since.
     stop: Option<Stop>,
     closed: AtomicBool,
+}
+
+/// What goes to clients on RTSP connections.
+#[derive(Clone, Copy, PartialEq, Eq)]
+pub enum Carried {
+    /// Replies alone.
+    Replies,
+    /// Replies, and frames that wait in a lane.
+    Frames,
 }
 
 /// Why there are no listeners: an address that isn't the host's, or a port that is in use or
@@ -50,16 +62,6 @@ pub(crate) struct Visitor {
     pub(crate) stream: TcpStream,
 }
 
-impl Visitor {
-    /// Returns whether nothing can be read from it but its end or a fault.
-    pub(crate) fn has_left(&self) -> bool {
-        match self.stream.peek(&mut [0u8; 1]) {
-            Ok(count) => count == 0,
-            Err(error) => !is_passing(&error),
-        }
-    }
-}
-
 // Creates a listener at which about `backlog` connections wait to be accepted. At a full listener,
 // a client's connect doesn't end (listen(2)). If the system refuses that length, its default stays.
 fn listen(net: &impl Net, ip: u32, port: u16, backlog: u16) -> io::Result<TcpListener> {
@@ -71,7 +73,7 @@ fn listen(net: &impl Net, ip: u32, port: u16, backlog: u16) -> io::Result<TcpLis
 impl Listeners {
     /// Binds both listeners at an IPv4 address. Port 0 lets the system choose one. At each
     /// listener, about `backlog` connections wait that aren't accepted yet. What comes from clients
-    /// is counted in `arrivals`, and so is the end of doors.
+    /// is counted in `arrivals`, and so is the end of doors. `carried` goes to clients of RTSP.
     pub fn bind(
         net: &impl Net,
         ip: u32,
@@ -79,6 +81,7 @@ impl Listeners {
         http_port: u16,
         backlog: u16,
         arrivals: Arc<Arrivals>,
+        carried: Carried,
     ) -> Result<Listeners, BindFault> {
         let rtsp = match listen(net, ip, rtsp_port, backlog) {
             Ok(rtsp) => rtsp,
@@ -90,6 +93,8 @@ impl Listeners {
                 http,
                 shortages: Throttle::new(),
                 arrivals,
+                carried,
+                crowded: AtomicBool::new(false),
                 stop: None,
                 closed: AtomicBool::new(false),
             }),
@@ -135,7 +140,7 @@ impl Listeners {
     }
 
     /// Returns the wait for bytes of a connection, in milliseconds, that is to last this long.
-    pub(crate) fn wait_ms(&self, wait_ms: i32) -> i32 {
+    pub(crate) fn wait_ms(&self, wait_ms: u64) -> u64 {
         match self.stop {
             Some(_) => wait_ms.min(STOP_WAIT_MS),
             None => wait_ms,
@@ -172,6 +177,16 @@ impl Listeners {
         rtsp || http
     }
 
+    /// Notes that a client that ended no message was given up, since others wait.
+    pub(crate) fn note_crowd(&self) {
+        self.crowded.store(true, Ordering::SeqCst);
+    }
+
+    /// Returns whether such a client was given up, and others waited since then.
+    pub(crate) fn is_crowded(&self) -> bool {
+        self.crowded.load(Ordering::SeqCst)
+    }
+
     /// Returns the next connection, one for RTSP first, after a wait of up to `wait_ms`
     /// milliseconds; `None` if none came.
     pub(crate) fn accept(&self, wait_ms: i32) -> io::Result<Option<Visitor>> {
@@ -180,6 +195,9 @@ impl Listeners {
             None => wait_ms,
         };
         let (rtsp, http) = have_input(&self.rtsp, &self.http, wait_ms);
+        if !rtsp && !http {
+            self.crowded.store(false, Ordering::SeqCst);
+        }
         if rtsp {
             if let Some(visitor) = accept_at(&self.rtsp, DoorKind::Rtsp)? {
                 return Ok(Some(visitor));

@@ -8,10 +8,11 @@ use crate::config::check_config;
 use crate::fault::KitsFault;
 use crate::kits::{RealJobs, real_kits};
 use satip_base::{Address, Failed, Peer, ReadSource, Sink, Source, Taken, Text, WriteSink};
+use satip_datagrams::{RealInlet, RealOutlet};
 use satip_desk::{Desk, Devices, JobJournal, JobsFault};
 use satip_host::{RealClock, Shown};
 use satip_playout::{RealPacer, RealStore};
-use satip_real::{RealConn, RealDoors, RealInlet, RealOutlet};
+use satip_real::{Carried, RealConn, RealDoors};
 use satip_tune::Config;
 use std::alloc::Global;
 use std::fmt::Display;
@@ -54,6 +55,7 @@ impl Source for ConfigFile {
 pub struct RealDesk<R: Wait + Copy + Drop + Send> {
     host: HostRuntime,
     rt: R,
+    carried: Carried,
     given: Option<Snapshot<RealJobs<R>>>,
     dialed: Option<Address>,
     bound: bool,
@@ -63,8 +65,9 @@ pub struct RealDesk<R: Wait + Copy + Drop + Send> {
 }
 
 impl<R: Wait + Copy + Drop + Send> RealDesk<R> {
-    /// Creates a desk that never failed and gave nothing.
-    pub fn new(host: HostRuntime, rt: R) -> RealDesk<R>
+    /// Creates a desk that never failed and gave nothing. The RTSP connections of its server carry
+    /// this.
+    pub fn new(host: HostRuntime, rt: R, carried: Carried) -> RealDesk<R>
         ensures given { result.given ≡ None }
         ensures dialed { result.dialed ≡ None }
         ensures bound { result.bound ≡ false }
@@ -75,6 +78,7 @@ impl<R: Wait + Copy + Drop + Send> RealDesk<R> {
         RealDesk {
             host,
             rt,
+            carried,
             given: None,
             dialed: None,
             bound: false,
@@ -166,7 +170,7 @@ impl<R: Wait + Copy + Drop + Send> Desk for RealDesk<R> {
         config: &Config,
         accepts: u32,
     ) -> Result<RealJobs<R>, JobsFault> {
-        match real_kits(self.host, self.rt, config, accepts) {
+        match real_kits(self.host, self.rt, config, accepts, self.carried) {
             Ok(jobs) => {
                 self.given = Some(Snapshot::of(&jobs));
                 Ok(jobs)

@@ -16,4 +16,5 @@ mod shared;
 pub use desk::{ConfigFile, RealDesk};
 pub use fault::KitsFault;
 pub use kits::{RealJobs, real_kits};
+pub use satip_real::Carried;
 pub use settings::Settings;

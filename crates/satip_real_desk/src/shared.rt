@@ -5,9 +5,10 @@ ghost use Rattle.std.specs.Prelude.{◌≡◌, IfOk};
 use crate::fault::KitsFault;
 use crate::settings::{STOP, Settings, read_file};
 use satip_base::Text;
+use satip_datagrams::{RealOutlet, SharedSocket};
 use satip_host::{Arrivals, ClockStart, RealClock, Start, Starts, Stop};
 use satip_playout::{Named, Playing, Progress, RealPacer, RealStore};
-use satip_real::{Listeners, RealDoors, RealOutlet, SharedSocket};
+use satip_real::{Carried, Listeners, RealDoors};
 use satip_tune::Config;
 use std::alloc::Global;
 use std::sync::{Arc, Wait};
@@ -33,11 +34,13 @@ impl Shared {
     ghost use Rattle.satip_world.specs.Halls.{fresh_hall};
     ghost use Rattle.satip_world.specs.Outboxes.{fresh_outbox};
 
-    /// Reads the settings and binds the sockets of a configuration.
+    /// Reads the settings and binds the sockets of a configuration, for a server whose RTSP
+    /// connections carry this.
     pub(crate) fn open(
         host: &HostRuntime,
         alloc: Global,
         config: &Config,
+        carried: Carried,
     ) -> Result<Shared, KitsFault> {
         let settings = Settings::read(host)?;
         let stop = stop_of(host, alloc)?;
@@ -50,6 +53,7 @@ impl Shared {
             config.http_port,
             config.workers,
             Arc::try_clone(&arrivals)?,
+            carried,
         )?;
         let socket = match SharedSocket::bind(*host, config.address) {
             Ok(socket) => socket,

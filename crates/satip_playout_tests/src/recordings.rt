@@ -1,8 +1,7 @@
 //! Recordings, their clocks and the pauses that follow them.
 
 use crate::checks::{check, check_within};
-use crate::doors::start;
-use crate::sockets::no_arrivals;
+use crate::jobs::{elapsed_ms, no_arrivals, start, time_pauses};
 use satip_base::{Source, Taken, Text};
 use satip_playout::*;
 use satip_ts::Packet;
@@ -328,26 +327,6 @@ fn a_recording_without_packets_ends(rt: HostRuntime) {
         let mut from = begin(&rt, &mut store(&rt, rt, &file, playing(true)));
         check(&rt, word, from.take(&mut [0; 188]), Taken::End);
     }
-}
-
-/// Returns the milliseconds since a moment.
-pub(crate) fn elapsed_ms(rt: &impl Abort, host: HostRuntime, begin: &Instant) -> u64 {
-    let elapsed = begin.elapsed(&host).expect(rt, "clock");
-    u64::try_from(elapsed.as_millis()).unwrap_or(0)
-}
-
-/// Returns the milliseconds that this number of pauses take.
-pub(crate) fn time_pauses<R: Wait + Drop>(
-    rt: &impl Abort,
-    host: HostRuntime,
-    pacer: &mut RealPacer<R>,
-    count: u32,
-) -> u64 {
-    let begin = Instant::now(&host).expect(rt, "clock");
-    for _ in 0..count {
-        pacer.pause();
-    }
-    elapsed_ms(rt, host, &begin)
 }
 
 // Takes 64 packets.

@@ -1,0 +1,84 @@
+//! How long connections wait for what doesn't come.
+
+use crate::checks::{check, check_within};
+use crate::doors::{elapsed_ms, meet, meet_at};
+use crate::sockets::{listen_with, no_arrivals};
+use satip_base::Put;
+use satip_real::{Carried, RealConn};
+use satip_world::{Conn, ConnEnd, Doors, Received};
+use std::io::{Read, Write};
+use std::net::TcpStream;
+use std::process::Abort;
+use std::thread;
+use std::time::{Duration, Instant};
+
+// Returns the milliseconds that this number of idle receives take.
+fn time_idles(rt: &impl Abort, host: HostRuntime, conn: &mut RealConn, count: u32) -> u64 {
+    let begin = Instant::now(&host).expect(rt, "clock");
+    for _ in 0..count {
+        check(rt, "silent", conn.receive(&mut [0; 16]), Received::Idle);
+    }
+    elapsed_ms(rt, host, &begin)
+}
+
+// Lets 50 ms pass, and sends a byte.
+fn send_late(host: HostRuntime, client: &mut TcpStream) -> bool {
+    thread::sleep(&host, Duration::from_millis(50));
+    client.write_all(b"a").is_ok()
+}
+
+#[test]
+fn a_client_that_asks_for_nothing_is_waited_for_longer(rt: HostRuntime) {
+    let (mut doors, mut client, (kind, peer, mut conn)) = meet(&rt, rt, 60);
+    let idle_ms = time_idles(&rt, rt, &mut conn, 1);
+    check_within(&rt, "idle", idle_ms, 970, 5_000);
+    let begin = Instant::now(&rt).expect(&rt, "clock");
+    let (sent, received) = thread::join(
+        &rt,
+        || send_late(rt, &mut client),
+        || conn.receive(&mut [0; 16]),
+    );
+    check(&rt, "byte", (sent, received), (true, Received::Got(1)));
+    check_within(&rt, "byte", elapsed_ms(&rt, rt, &begin), 49, 950);
+    doors.back(conn, kind, peer, ConnEnd::ReadFault);
+}
+
+// Sends 160000 bytes, and reads them.
+fn pass_much(rt: &impl Abort, conn: &mut RealConn, client: &mut TcpStream) {
+    let mut piece = [0; 8000];
+    for _ in 0..20 {
+        check(rt, "frames", conn.send(&[7; 8000]), Put::Whole);
+        client.read_exact(&mut piece).expect(rt, "frames");
+    }
+}
+
+// Returns the least milliseconds of ten idle receives, each after much was sent or not.
+fn least_idle(
+    rt: &impl Abort,
+    host: HostRuntime,
+    conn: &mut RealConn,
+    client: &mut TcpStream,
+    sends: bool,
+) -> u64 {
+    let mut least_ms = u64::MAX;
+    for _ in 0..10 {
+        if sends {
+            pass_much(rt, conn, client);
+        }
+        least_ms = least_ms.min(time_idles(rt, host, conn, 1));
+    }
+    least_ms
+}
+
+#[test]
+fn a_client_with_a_lane_is_waited_for_shortly(rt: HostRuntime) {
+    let listeners = listen_with(&rt, rt, no_arrivals(&rt, rt), Carried::Frames);
+    let (_doors, mut client, (_, _, mut conn)) = meet_at(&rt, rt, listeners, 60);
+    // it stays so after 1.4 s in which nothing was sent
+    let quiet_ms = time_idles(&rt, rt, &mut conn, 50);
+    check_within(&rt, "quiet", quiet_ms, 1_700, 40_000);
+    let short_ms = least_idle(&rt, rt, &mut conn, &mut client, false);
+    check_within(&rt, "short", short_ms, 34, 200);
+    let shorter_ms = least_idle(&rt, rt, &mut conn, &mut client, true);
+    check_within(&rt, "after much", shorter_ms, 9, 34);
+}
