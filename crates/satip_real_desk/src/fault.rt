@@ -1,6 +1,7 @@
 //! The reasons why a server can't begin.
 
-use satip_base::Want;
+use satip_base::{Text, Want};
+use satip_host::Shown;
 use satip_real::BindFault;
 use std::alloc::{AllocError, AllocFailed};
 use std::{fmt, io};
