@@ -32,7 +32,7 @@ import time
 
 sys.dont_write_bytecode = True
 from lib.checks import Checks, seconds
-from lib.rtp import arrived, port_of, receiver
+from lib.rtp import arrived, port_of, receiver_pair
 from lib.rtsp import over_udp
 from lib.server import (
     PLAIN_PACKET,
@@ -62,7 +62,7 @@ class Player:
 
     def __init__(self, server, query=QUERY):
         client = server.client()
-        self.sock = receiver(client.host, 1 << 20)
+        self.sock, self.reports = receiver_pair(client.host)
         self.server = server
         self.target, self.session = client.play(client.url(query), over_udp(port_of(self.sock)))
         client.close()

@@ -23,7 +23,7 @@ import time
 
 sys.dont_write_bytecode = True
 from lib.checks import Checks
-from lib.rtp import datagrams, number_of, port_of, receiver, skipped
+from lib.rtp import datagrams, number_of, port_of, receiver_pair, skipped
 from lib.rtsp import inside, over_udp
 from lib.server import QUERY, Server, program
 
@@ -60,7 +60,7 @@ class Viewer:
 
     def __init__(self, server):
         self.client = server.client()
-        self.sock = receiver(self.client.host)
+        self.sock, self.reports = receiver_pair(self.client.host)
         target = self.client.url(QUERY)
         self.target, self.session = self.client.play(target, over_udp(port_of(self.sock)))
         self.last = None
