@@ -150,7 +150,9 @@ const RECORDING: &Row = &Row {
 [[frontend]]\nsources = [1]\nsystems = [\"dvbs\"]\n\
 [[mux]]\nsrc = 1\nfreq = \"11494\"\npol = \"h\"\n\
 msys = \"dvbs\"\nsr = 22000\nfile = \"no/such/recording.ts\"\n",
-    ..*SERVED
+    status: 0,
+    left: true,
+    errors: b"",
 };
 
 #[test]

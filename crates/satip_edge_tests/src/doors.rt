@@ -290,12 +290,12 @@ fn a_client_that_ends_no_message_lets_others_in(rt: HostRuntime) {
 
 #[test]
 fn a_client_that_is_sent_something_is_not_silent(rt: HostRuntime) {
-    let (_doors, _client, (_, _, mut conn)) = meet(&rt, rt, 1);
-    for _ in 0..6 {
-        thread::sleep(&rt, Duration::from_millis(500));
+    let (_doors, _client, (_, _, mut conn)) = meet(&rt, rt, 2);
+    for _ in 0..4 {
         check(&rt, "sent", conn.send(b"$"), Put::Whole);
-        check(&rt, "idle", conn.receive(&mut []) == Received::Failed, false);
+        check(&rt, "idle", conn.receive(&mut [0; 16]), Received::Idle);
     }
+    check_received(&rt, "silent", &mut conn, &[Received::Failed]);
 }
 
 // Connects a client that asks, and then sends nothing more.

@@ -7,7 +7,7 @@ use satip_base::Put;
 use satip_real::{Carried, RealConn};
 use satip_world::{Conn, ConnEnd, Doors, Received};
 use std::io::{Read, Write};
-use std::net::TcpStream;
+use std::net::{Shutdown, TcpStream};
 use std::process::Abort;
 use std::thread;
 use std::time::{Duration, Instant};
@@ -81,4 +81,58 @@ fn a_client_with_a_lane_is_waited_for_shortly(rt: HostRuntime) {
     check_within(&rt, "short", short_ms, 34, 200);
     let shorter_ms = least_idle(&rt, rt, &mut conn, &mut client, true);
     check_within(&rt, "after much", shorter_ms, 9, 34);
+}
+
+#[test]
+fn input_that_a_read_leaves_is_read_next(rt: HostRuntime) {
+    let (_doors, mut client, (_, _, mut conn)) = meet(&rt, rt, 60);
+    check(&rt, "before", conn.receive(&mut [0; 16]), Received::Idle);
+    client.write_all(&[7; 40]).expect(&rt, "bytes");
+    for count in [16, 16, 8] {
+        let got = conn.receive(&mut [0; 16]);
+        check(&rt, "piece", got, Received::Got(count));
+    }
+    check(&rt, "after", conn.receive(&mut [0; 16]), Received::Idle);
+    client.write_all(b"a").expect(&rt, "a byte");
+    check(&rt, "more", conn.receive(&mut [0; 16]), Received::Got(1));
+}
+
+// The bytes of a reply for which a send has to wait.
+const REPLY: usize = 16777216;
+
+// Asks while a send waits, and ends its side or not. Then reads the reply. Returns the client, and
+// whether the reply is whole.
+fn ask_and_read(host: HostRuntime, client: TcpStream, ends: bool) -> (TcpStream, bool) {
+    let mut client = client;
+    thread::sleep(&host, Duration::from_millis(300));
+    let mut whole = client.write_all(b"ask").is_ok();
+    if ends {
+        whole = client.shutdown(Shutdown::Write).is_ok() && whole;
+    }
+    let mut buf = [0; 4096];
+    for _ in 0..REPLY / 4096 {
+        whole = client.read_exact(&mut buf).is_ok() && whole;
+    }
+    (client, whole)
+}
+
+#[test]
+fn input_that_comes_while_a_send_waits_is_heard(rt: HostRuntime) {
+    let text = vec![in rt.alloc(); 7; REPLY].expect(&rt, "out of memory");
+    for (name, ends, last) in [
+        ("ends", true, Received::End),
+        ("goes on", false, Received::Idle),
+    ] {
+        let (_doors, client, (_, _, mut conn)) = meet(&rt, rt, 60);
+        check(&rt, name, conn.receive(&mut [0; 16]), Received::Idle);
+        let (put, (client, whole)) = thread::join(
+            &rt,
+            || conn.send(&text),
+            || ask_and_read(rt, client, ends),
+        );
+        check(&rt, name, (put, whole), (Put::Whole, true));
+        check(&rt, name, conn.receive(&mut [0; 16]), Received::Got(3));
+        check(&rt, name, conn.receive(&mut [0; 16]), last);
+        drop(client);
+    }
 }

@@ -78,7 +78,10 @@ fn time_ticks(rt: &impl Abort, host: HostRuntime, pacer: &mut impl Pacer) -> u64
 fn a_tickers_pauses_end_20_milliseconds_apart(rt: HostRuntime) {
     let mut pacer: RealPacer<HostRuntime> = RealPacer::ticking(rt, start(&rt, rt.alloc()));
     let mut least_ms = u64::MAX;
-    for _ in 0..5 {
+    for _ in 0..20 {
+        if least_ms <= 280 {
+            break;
+        }
         least_ms = least_ms.min(time_ticks(&rt, rt, &mut pacer));
     }
     check_within(&rt, "ten ticks", least_ms, 195, 280);

@@ -406,9 +406,17 @@ fn time_recording<R: Wait + Drop>(
 fn a_pause_follows_the_recording(rt: HostRuntime) {
     // 8 packets in 5 ms, so 64 in 40 ms; and 8 in 0.5 ms, so 64 in 4 ms.
     for (word, step, least, most) in [("slow", 135_000, 375, 1500), ("fast", 13_500, 50, 190)] {
-        let (bursts_ms, idle_ms) = time_recording(&rt, rt, rt, word, step);
-        check_within(&rt, word, bursts_ms, least, most);
-        check_within(&rt, word, idle_ms, 19, u64::MAX);
+        // a busy machine may be late, but not each time
+        let mut least_ms = u64::MAX;
+        for _ in 0..20 {
+            let (bursts_ms, idle_ms) = time_recording(&rt, rt, rt, word, step);
+            check_within(&rt, word, idle_ms, 19, u64::MAX);
+            least_ms = least_ms.min(bursts_ms);
+            if least_ms <= most {
+                break;
+            }
+        }
+        check_within(&rt, word, least_ms, least, most);
     }
 }
 
