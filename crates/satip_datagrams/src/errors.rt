@@ -1,6 +1,6 @@
 //! The errors of calls on sockets, by what follows from them.
 
-use std::io;
+use std::{fmt, io};
 
 // Errors that the crate `libc` doesn't name (errno(3)).
 const ENOBUFS: i32 = 105;
@@ -66,10 +66,40 @@ pub(crate) fn is_taken(error: &io::Error) -> bool {
     matches!(error.raw_os_error(), Some(libc::EADDRINUSE | libc::EACCES))
 }
 
-/// Returns whether a send buffer or the system had no room for a datagram (send(2)).
-pub(crate) fn lacks_room(error: &io::Error) -> bool {
-    matches!(
-        error.raw_os_error(),
-        Some(libc::EAGAIN | libc::ENOMEM | ENOBUFS)
-    )
+/// Why the system refused a datagram (send(2), udp(7)).
+#[derive(Clone, Copy, Debug, PartialEq, Eq)]
+pub(crate) enum Refusal {
+    /// Its host answered that no program listens at the port.
+    Unheard,
+    /// No route leads to its host.
+    NoRoute,
+    /// A rule of the network's filter refuses it.
+    NotPermitted,
+    /// A send buffer or the system had no room for it.
+    NoRoom,
+    /// Another reason.
+    Other,
+}
+
+impl fmt::Display for Refusal {
+    fn fmt<W: fmt::Write>(&self, f: &mut fmt::Formatter<W>) -> fmt::Result {
+        f.write_str(match self {
+            Refusal::Unheard => "unheard",
+            Refusal::NoRoute => "no route",
+            Refusal::NotPermitted => "not permitted",
+            Refusal::NoRoom => "no room",
+            Refusal::Other => "other",
+        })
+    }
+}
+
+/// Returns why a datagram was refused.
+pub(crate) fn refusal_of(error: &io::Error) -> Refusal {
+    match error.raw_os_error() {
+        Some(libc::ECONNREFUSED) => Refusal::Unheard,
+        Some(ENETDOWN | ENETUNREACH | EHOSTDOWN | EHOSTUNREACH | ENONET) => Refusal::NoRoute,
+        Some(libc::EPERM | libc::EACCES) => Refusal::NotPermitted,
+        Some(libc::EAGAIN | libc::ENOMEM | ENOBUFS) => Refusal::NoRoom,
+        _ => Refusal::Other,
+    }
 }

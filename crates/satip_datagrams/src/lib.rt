@@ -11,6 +11,7 @@ mod inlet;
 mod options;
 mod outlet;
 mod readiness;
+mod tallies;
 
 pub use addresses::{peer_of, socket_addr};
 pub use errors::is_passing;

@@ -18,8 +18,8 @@ use std::thread;
 use std::thread::Threads;
 use std::time::{Duration, Instant};
 
-// Turns of the doors until one is another than Idle.
-fn next_come(doors: &mut RealDoors) -> Door<RealConn> {
+/// Turns of the doors until one is another than Idle.
+pub(crate) fn next_come(doors: &mut RealDoors) -> Door<RealConn> {
     for _ in 0..100 {
         match doors.next() {
             Door::Idle => (),
@@ -32,8 +32,8 @@ fn next_come(doors: &mut RealDoors) -> Door<RealConn> {
 /// What doors say of a client, and its connection.
 pub(crate) type Came = (DoorKind, Peer, RealConn);
 
-// Returns the next client at the doors.
-fn next_client(rt: &impl Abort, doors: &mut RealDoors) -> Came {
+/// Returns the next client at the doors.
+pub(crate) fn next_client(rt: &impl Abort, doors: &mut RealDoors) -> Came {
     match next_come(doors) {
         Door::Came { kind, peer, conn } => (kind, peer, conn),
         _ => panic!(rt; "no connection"),
@@ -52,8 +52,8 @@ fn check_end(rt: &impl Abort, name: &str, doors: &mut RealDoors) {
     }
 }
 
-// Returns the start of a server's one job.
-fn start(rt: &impl Abort, alloc: Global) -> Start {
+/// Returns the start of a server's one job.
+pub(crate) fn start(rt: &impl Abort, alloc: Global) -> Start {
     let starts = Arc::new(alloc, Starts::expect(1)).expect(rt, "out of memory");
     Start::counting(&starts).expect(rt, "out of memory")
 }

@@ -18,4 +18,6 @@ mod sending;
 #[cfg(test)]
 mod sockets;
 #[cfg(test)]
+mod stops;
+#[cfg(test)]
 mod waits;

@@ -181,7 +181,8 @@ fn store_of(rt: &impl Abort, host: HostRuntime, names: &[&str], playing: Playing
     let mut files = Vec::new(host.alloc());
     for name in names {
         let name = Text::of(host.alloc(), name).expect(rt, "out of memory");
-        files.push(name).expect(rt, "out of memory");
+        let named = Named::new(host.alloc(), name).expect(rt, "out of memory");
+        files.push(named).expect(rt, "out of memory");
     }
     let files = Arc::new(host.alloc(), files).expect(rt, "out of memory");
     RealStore::new(host, files, playing)

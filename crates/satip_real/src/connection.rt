@@ -38,6 +38,9 @@ const SERVER_WAIT_MS: u64 = 1;
 /// A wait ends when one of these times does. What a client sent counts as an arrival at the next
 /// receive, when its connection is closed, and when a send has to wait.
 ///
+/// If the server may be asked to end, a receive from a client waits up to 250 ms. Once it was asked
+/// to, and the time for its connections is over, each receive is the end.
+///
 /// A receive from a server waits up to 1 ms for bytes, and no silence makes it fail.
 ///
 /// A send waits until the other end takes all bytes. It fails after 200 waits of 50 ms in a row in
@@ -108,7 +111,8 @@ impl RealConn {
         }
     }
 
-    // Reads the next bytes. Returns `TimedOut` if the other end was silent for too long.
+    // Reads the next bytes; 0 if the server was asked to end and the connection has to. Returns
+    // `TimedOut` if the other end was silent for too long.
     fn hear(&mut self, buf: &mut [u8]) -> io::Result<usize>
         ensures within { ReadsAtMost result buf.new }
         ensures same { self.new ≡ self.old }
@@ -116,7 +120,11 @@ impl RealConn {
         let Some(silence) = &mut self.silence else {
             return self.socket.read(SERVER_WAIT_MS, buf);
         };
-        match self.socket.read(silence.next_wait_ms(), buf) {
+        let wait_ms = silence.next_wait_ms();
+        if silence.has_to_end() {
+            return Ok(0);
+        }
+        match self.socket.read(silence.cut_ms(wait_ms), buf) {
             Ok(count) => {
                 silence.hear();
                 if silence.is_over() {

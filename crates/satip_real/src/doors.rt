@@ -28,6 +28,8 @@ const SHORTAGE_MS: u64 = 50;
 ///
 /// A connection that is handed back is closed. Each look is a step of the worker. The end and each fault count as an arrival, since the
 /// server may stop after them.
+///
+/// If the server may be asked to end, they wait up to 1 s, and end once it was asked to.
 #[derive(Drop)]
 pub struct RealDoors {
     rt: HostRuntime,
@@ -35,6 +37,8 @@ pub struct RealDoors {
     listeners: Arc<Listeners>,
     timeout_s: u32,
     limit: u32,
+    // Whether the server may be asked to end.
+    may_stop: bool,
     count: u64,
     ended: bool,
     idles: u64,
@@ -58,7 +62,9 @@ impl Model for RealDoors {
       returned = [];
     } };
 
-    ghost invariant = { λ d. d.ended ≡ true → (d.limit ≢ 0) × (d.limit ≤ d.count) };
+    // Doors of a server that nothing asks to end do so by their limit alone.
+    ghost invariant = { λ d. d.ended ≡ true → d.may_stop ≡ false
+        → (d.limit ≢ 0) × (d.limit ≤ d.count) };
 }
 
 impl RealDoors {
@@ -75,12 +81,14 @@ impl RealDoors {
     ) -> RealDoors
         ensures fresh { result ≡ fresh_hall limit false }
     {
+        let may_stop = listeners.may_stop();
         RealDoors {
             rt,
             start,
             listeners,
             timeout_s,
             limit,
+            may_stop,
             count: 0,
             ended: false,
             idles: 0,
@@ -121,6 +129,7 @@ fn welcome(rt: HostRuntime, listeners: &Arc<Listeners>, timeout_s: u32) -> io::R
     let Visitor { kind, peer, stream } = match listeners.accept(WAIT_MS) {
         Ok(Some(visitor)) => visitor,
         Ok(None) => return Ok(None),
+        Err(_) if listeners.is_stopped() => return Ok(None),
         Err(error) if ends_listening(&error) => return Err(error),
         Err(error) => {
             if lacks_descriptors(&error) {
@@ -149,7 +158,8 @@ impl Doors for RealDoors {
 
     ghost hall = { λ d. d };
 
-    ghost by_limit = { Unit {0} };
+    // They end too if the server is asked to.
+    ghost by_limit = { ⊥ };
 
     fn next(&mut self) -> Door<RealConn> {
         self.start.step(&self.rt);
@@ -161,8 +171,14 @@ impl Doors for RealDoors {
             self.listeners.arrivals.add();
             return Door::End;
         }
+        if self.may_stop && self.listeners.is_stopped() {
+            self.ended = true;
+            self.listeners.arrivals.add();
+            return Door::End;
+        }
         match welcome(self.rt, &self.listeners, self.timeout_s) {
             Ok(Some(Guest { kind, peer, conn })) => {
+                self.listeners.enter();
                 self.count = self.count.saturating_add(1);
                 Door::Came { kind, peer, conn }
             }
@@ -189,5 +205,6 @@ impl Doors for RealDoors {
         // Gives the proof the invariant of the doors.
         let _ = &self.count;
         conn.close(self.rt, end);
+        self.listeners.leave();
     }
 }

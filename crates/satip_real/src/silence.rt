@@ -108,6 +108,16 @@ impl Silence {
         self.kind == DoorKind::Http && self.was_answered
     }
 
+    /// Returns whether the connection has to end, since the server was asked to.
+    pub(crate) fn has_to_end(&self) -> bool {
+        self.listeners.is_over()
+    }
+
+    /// Returns a wait of this length, or a shorter one if the server may be asked to end.
+    pub(crate) fn cut_ms(&self, wait_ms: u64) -> u64 {
+        self.listeners.wait_ms(wait_ms)
+    }
+
     /// Returns the length of the next wait in milliseconds. It ends when the client may have to be
     /// given up. What was received before counts as an arrival.
     pub(crate) fn next_wait_ms(&mut self) -> u64 {

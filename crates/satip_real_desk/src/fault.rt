@@ -1,6 +1,7 @@
 //! The reasons why a server can't begin.
 
-use satip_base::Want;
+use satip_base::{Text, Want};
+use satip_host::Shown;
 use satip_real::BindFault;
 use std::alloc::{AllocError, AllocFailed};
 use std::{fmt, io};
@@ -18,6 +19,10 @@ pub enum KitsFault {
     Pace,
     /// `SATIP_REPEAT` is set to something other than `1`.
     Repeat,
+    /// This variable names no file.
+    Name(&'static str),
+    /// The file that asks a server to end is there.
+    Stopped(Text),
     /// No random bytes are available for a worker's key.
     Key,
     /// Out of memory.
@@ -32,6 +37,11 @@ impl fmt::Display for KitsFault {
             KitsFault::Socket(error) => write!(f, "UDP socket: {error}"),
             KitsFault::Pace => f.write_str("SATIP_PACE has no value but recording"),
             KitsFault::Repeat => f.write_str("SATIP_REPEAT has no value but 1"),
+            KitsFault::Name(name) => write!(f, "{name} has no name of a file"),
+            KitsFault::Stopped(name) => {
+                let name = Shown(name);
+                write!(f, "{name} asks servers to end (remove it, then start satip)")
+            }
             KitsFault::Key => write!(f, "no random bytes"),
             KitsFault::Want => write!(f, "out of memory"),
         }

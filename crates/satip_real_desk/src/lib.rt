@@ -5,6 +5,7 @@
 //! line and no kits.
 #![tactic(auto)]
 
+mod config;
 mod desk;
 mod fault;
 mod kits;

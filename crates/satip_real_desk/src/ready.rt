@@ -3,7 +3,7 @@
 use crate::settings::Settings;
 use crate::shared::Shared;
 use satip_base::Text;
-use satip_host::{Shown, report_line};
+use satip_host::{Shown, report_line, report_notice};
 use satip_playout::{RealStore, RecordingFault};
 use satip_tune::Config;
 use std::alloc::AllocError;
@@ -60,7 +60,7 @@ pub(crate) fn report_ready(
     shared: &Shared,
     lengths: &[Option<u64>],
 ) {
-    report_line(
+    report_notice(
         host,
         Ready {
             address: Ipv4Addr::from(config.address),
