@@ -11,6 +11,8 @@
 #       runs `rt ci` without --anew. On a kit that has --anew it proves what changed since the last run
 #   tools/gate_times.sh LOG
 #       prints the table of a log
+#   tools/gate_times.sh seconds LOG
+#       prints the processor seconds of each library and program, as lines of tools/proof_seconds.txt
 #
 # A line of LOG is one check: its kind (library, tests, seed or edit), its crate, its edit or -, and
 # both times. The line `rt` has the processor seconds of rt itself, a Python program, which hashes the
@@ -204,6 +206,10 @@ case ${1-} in
     [[ $# -ge 2 ]] || usage
     shift
     record "$@"
+    ;;
+  seconds)
+    [[ $# -eq 2 ]] || usage
+    awk '$1 == "library" { print $2, $4 }' "$2"
     ;;
   *) table "$1" ;;
 esac

@@ -7,12 +7,14 @@
 # Copies into FOLDER, which is empty or not there, crates.txt with the line of crate satip and those
 # of the crates below it, these crates without their edits, and HANDLES. Runs `rt ci` there: it proves
 # each crate, as many side by side as there are processors and memory, and builds and runs the program
-# as two compilers make it. Copies the program, as LLVM built it, to crates/satip/out/satip. Without
-# FOLDER it works in a folder of temporary files, and removes it.
+# as two compilers make it. Copies the program, as LLVM built it, to crates/satip/out/satip, and beside
+# it what says that it was built from these sources (tools/kept_program.sh). Without FOLDER it works in
+# a folder of temporary files, and removes it.
 #
-# Says at the end how long rt ci took. Ends with the status of rt ci, and with 2 if FOLDER isn't empty
-# or there is no program. Needs the kit's rt in PATH, and the Debian packages bash, coreutils, git, and
-# gawk or mawk.
+# Prints a line as each crate is proved (tools/proof_progress.py), and what isn't proved; all that rt ci
+# prints is in crates/satip/out/proof.log. Says at the end how long rt ci took. Ends with the status of
+# rt ci, and with 2 if FOLDER isn't empty or there is no program. Needs the kit's rt in PATH, and the
+# Debian packages bash, coreutils, findutils, git, python3, and gawk or mawk.
 set -euo pipefail
 export LC_ALL=C
 top=$(cd "$(dirname "$0")/.." && pwd)
@@ -59,9 +61,21 @@ copy_crate() {
   done
 }
 
+# Runs the gate in a folder, and says how far it is.
+run_gate() {
+  local log=$2 statuses
+  set +e
+  (cd "$1" && rt ci 2>&1) | "$top/tools/proof_progress.py" --log "$log" "$1/crates.txt"
+  statuses=("${PIPESTATUS[@]}")
+  set -e
+  # A fault that isn't of a proof, as that of a program's run.
+  if [[ ${statuses[0]} != 0 && ${statuses[1]} == 0 ]]; then tail -n 30 "$log"; fi
+  return "${statuses[0]}"
+}
+
 # Copies the crates to a folder, and runs the gate there.
 prove() {
-  local crate status=0 begun=$SECONDS
+  local crate status=0 begun=$SECONDS log=$top/crates/satip/out/proof.log
   # rt ci wants crates.txt at the top of a repository, and the folder may be inside of another.
   git init -q "$1"
   cp "$top/HANDLES" "$1/"
@@ -70,9 +84,10 @@ prove() {
   while read -r crate; do
     copy_crate "$crate" "$1"
   done < <(awk '{ sub(/[ :].*/, ""); print $1 }' "$1/crates.txt")
-  printf '%s crates in %s\n' "$(wc -l <"$1/crates.txt")" "$1"
-  (cd "$1" && rt ci) || status=$?
-  printf 'rt ci: status %s, %s s\n' "$status" "$((SECONDS - begun))"
+  mkdir -p "${log%/*}"
+  printf '%s crates in %s; what rt ci prints is in %s\n' "$(wc -l <"$1/crates.txt")" "$1" "$log"
+  run_gate "$1" "$log" || status=$?
+  printf 'rt ci: %s, status %s, %s s\n' "$(tail -n 1 "$log")" "$status" "$((SECONDS - begun))"
   return "$status"
 }
 
@@ -91,8 +106,8 @@ main() {
   [[ $status == 0 ]] || return "$status"
   built=$folder/crates/satip/out/satip
   [[ -x $built ]] || fail "rt ci left no program in $folder"
-  mkdir -p "$top/crates/satip/out"
   cp "$built" "$top/crates/satip/out/"
+  "$top/tools/kept_program.sh" keep
   printf 'the program: %s\n' "$top/crates/satip/out/satip"
 }
 

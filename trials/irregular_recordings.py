@@ -102,6 +102,7 @@ def try_late(checks, folder):
     server, path = Started(folder, ("a.ts", "late.ts")), os.path.join(folder, "late.ts")
     silent = not server.packets(QUERIES[1], 0.7)
     checks.check(silent, "late.ts: no packet comes before the file is there")
+    time.sleep(1)
     os.link(os.path.join(folder, "a.ts"), path)
     checks.check(server.packets(QUERIES[1]), "late.ts: the next client gets it")
     os.remove(path)

@@ -391,7 +391,7 @@ fn events_before_a_send_that_waits_are_shown(rt: HostRuntime) {
     let (arrivals, _doors, mut client, (_, _, mut conn)) = meet_once(&rt, rt);
     client.write_all(b"ask").expect(&rt, "request");
     check_heard(&rt, "request", &mut conn, b"ask");
-    let text = vec![in rt.alloc(); 7; 33554432].expect(&rt, "out of memory");
+    let text = vec![in rt.alloc(); 7; 16777216].expect(&rt, "out of memory");
     let (put, came) = thread::join(
         &rt,
         || conn.send(&text),

@@ -2,7 +2,7 @@
 
 use crate::checks::{check, check_within};
 use crate::doors::{elapsed_ms, meet, meet_at};
-use crate::sockets::{listen_with, no_arrivals};
+use crate::sockets::{check_heard, listen_with, no_arrivals};
 use satip_base::Put;
 use satip_real::{Carried, RealConn};
 use satip_world::{Conn, ConnEnd, Doors, Received};
@@ -74,9 +74,13 @@ fn least_idle(
 fn a_client_with_a_lane_is_waited_for_shortly(rt: HostRuntime) {
     let listeners = listen_with(&rt, rt, no_arrivals(&rt, rt), Carried::Frames);
     let (_doors, mut client, (_, _, mut conn)) = meet_at(&rt, rt, listeners, 60);
+    client.write_all(b"a").expect(&rt, "a byte");
+    check_heard(&rt, "a byte", &mut conn, b"a");
+    check(&rt, "reply", conn.send(b"a"), Put::Whole);
     // it stays so after 1.4 s in which nothing was sent
     let quiet_ms = time_idles(&rt, rt, &mut conn, 50);
     check_within(&rt, "quiet", quiet_ms, 1_700, 40_000);
+    client.read_exact(&mut [0]).expect(&rt, "reply");
     let short_ms = least_idle(&rt, rt, &mut conn, &mut client, false);
     check_within(&rt, "short", short_ms, 34, 200);
     let shorter_ms = least_idle(&rt, rt, &mut conn, &mut client, true);

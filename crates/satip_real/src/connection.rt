@@ -24,8 +24,8 @@ const SERVER_WAIT_MS: u64 = 1;
 ///
 /// A receive from a client waits for bytes, and is idle if none came. It waits up to
 /// - 50 ms for an HTTP client that was sent something;
-/// - 35 ms for an RTSP client to whom frames may go, 50 ms after some were sent since the last
-/// receive, and 10 ms after more than 131072 bytes of them;
+/// - 35 ms for an RTSP client to whom frames may go; 10 ms after bytes were received, or more than
+///   131072 were sent, since the last receive; 50 ms after more than 8192 were;
 /// - a second for any other client.
 ///
 /// A byte ends each wait. A client is silent while it sends nothing and nothing is sent to it. Over
@@ -120,11 +120,10 @@ impl RealConn {
         let Some(silence) = &mut self.silence else {
             return self.socket.read(SERVER_WAIT_MS, buf);
         };
-        silence.end_piece();
+        let wait_ms = silence.next_wait_ms();
         if silence.has_to_end() {
             return Ok(0);
         }
-        let wait_ms = silence.next_wait_ms();
         match self.socket.read(silence.cut_ms(wait_ms), buf) {
             Ok(count) => {
                 silence.hear();

@@ -19,10 +19,11 @@ const QUIET_WAIT_MS: u64 = 1000;
 // The longest wait for a client that reads a stream, in milliseconds.
 const STREAM_WAIT_MS: u64 = 50;
 
-// The longest waits for a client with a lane, in milliseconds: while no frames were sent, so that a
-// lane whose session starts to play isn't filled within one, and after many.
+// The longest wait for a client with a lane while no frames are sent, in milliseconds: a lane whose
+// session starts to play isn't filled within it.
 const LANE_WAIT_MS: u64 = 35;
 
+// The longest wait after many frames, or after a request, which may be PLAY, in milliseconds.
 const FULL_LANE_WAIT_MS: u64 = 10;
 
 // The counts of bytes sent between two waits from which frames are among them, and many.
@@ -118,15 +119,16 @@ impl Silence {
     }
 
     /// Returns the length of the next wait in milliseconds. It ends when the client may have to be
-    /// given up.
+    /// given up. What was received before counts as an arrival.
     pub(crate) fn next_wait_ms(&mut self) -> u64 {
-        let sent = self.sent;
+        let (asked, sent) = (self.is_new, self.sent);
+        self.end_piece();
         self.sent = 0;
         if self.reads_stream() {
             return STREAM_WAIT_MS;
         }
         let longest_ms = match (self.kind, self.listeners.carried) {
-            (DoorKind::Rtsp, Carried::Frames) => lane_wait_ms(sent),
+            (DoorKind::Rtsp, Carried::Frames) => lane_wait_ms(asked, sent),
             _ => QUIET_WAIT_MS,
         };
         longest_ms.min(self.left_ms())
@@ -178,12 +180,13 @@ impl Silence {
     }
 }
 
-// Returns the longest wait for a client with a lane, after this number of bytes was sent.
-fn lane_wait_ms(sent: usize) -> u64
+// Returns the longest wait for a client with a lane, after this number of bytes was sent, and bytes
+// were received or not.
+fn lane_wait_ms(asked: bool, sent: usize) -> u64
     ensures short { result ≤ 50 }
     ensures many { 131072 < sent → result ≡ 10 }
 {
-    if sent > MANY_FRAMES {
+    if asked || sent > MANY_FRAMES {
         return FULL_LANE_WAIT_MS;
     }
     if sent > FRAMES {

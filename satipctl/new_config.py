@@ -1,27 +1,22 @@
-#!/usr/bin/env python3
 """Writes a configuration for recordings, and says what to start.
 
-    tools/new_config.py [--address ADDRESS] [--to CONFIG] [--force] FILE..
-
 Each FILE becomes a multiplex of its own, and each of up to 16 gets a front end. CONFIG is
-satip.toml without the word; one that stands is only written over with --force. ADDRESS is that of
+satip.toml without the word; one that exists is only written over with --force. ADDRESS is that of
 this machine on its network without the word. The ports are 554 and 8875 where they are free and
 may be opened, else the next free ones from 18554 and 18875 on.
 
 Of each file it says whether it is a transport stream, its rate, and what SATIP_PACE=recording is
-good for. Needs the Debian packages python3 and ffmpeg (for ffprobe). The status is 1 where a file
+good for. Needs the Debian package ffmpeg (for ffprobe). The status is 1 where a file
 was left out, 2 where nothing was written.
 """
 
-import argparse
 import json
 import os
 import shutil
 import socket
-import sys
 
-sys.dont_write_bytecode = True
-from recordings import EVEN_PACE, NoRecording, clock_text, probe, rate_text
+from .command import Fault
+from .recordings import EVEN_PACE, NoRecording, clock_text, probe, rate_text
 
 BUILT = os.path.join(os.path.dirname(os.path.abspath(__file__)), "../crates/satip/out/satip")
 MOST_FRONTENDS, MOST_MUXES, LONGEST_NAME = 16, 256, 255
@@ -29,7 +24,7 @@ MOST_FRONTENDS, MOST_MUXES, LONGEST_NAME = 16, 256, 255
 FIRST_MHZ, STEP_MHZ = 10704, 8
 
 HEAD = """\
-# Written by tools/new_config.py. examples/satip.toml says what each line is.
+# Written by satipctl new-config. The example satip.toml says what each line is.
 address = {address}
 rtsp_port = {rtsp}
 http_port = {http}
@@ -88,7 +83,7 @@ def pace_text(rate):
     return f"plays {max(factor, 1 / factor):.1f} times too {way} without SATIP_PACE=recording"
 
 
-def taken(paths):
+def taken(paths, probe=probe):
     """The recordings that can be played, and whether each file is one; says what each file is."""
     recordings, whole = [], True
     for path in paths:
@@ -126,7 +121,7 @@ def say_what_to_start(config, recordings):
     program = "satip" if shutil.which("satip") else os.path.relpath(BUILT)
     print(f"{config} is written. Start the server, which plays each recording again at its end:")
     print(f"    {pace}SATIP_REPEAT=1 {program} serve {config} 0")
-    print(f"and see its channels by tools/channels.py {config}, or --m3u for a playlist.")
+    print(f"and see its channels by satipctl channels {config}, or --m3u for a playlist.")
 
 
 def write(path, text, force):
@@ -134,34 +129,26 @@ def write(path, text, force):
         with open(path, "w" if force else "x", encoding="utf-8") as file:
             file.write(text)
     except FileExistsError:
-        stop(f"{path} stands already: give --force, or another name by --to")
+        raise Fault(f"{path} exists already: give --force, or another name by --to") from None
     except OSError as error:
-        stop(f"{path}: {error.strerror}")
+        raise Fault(f"{path}: {error.strerror}") from error
 
 
-def stop(why):
-    print(why, file=sys.stderr)
-    sys.exit(2)
-
-
-def main():
-    words = argparse.ArgumentParser(description="Writes a configuration of satip for recordings.")
+def add_words(words):
     words.add_argument("--address", help="the address that clients reach this machine at")
     words.add_argument("--to", metavar="CONFIG", default="satip.toml", help="what is written")
-    words.add_argument("--force", action="store_true", help="writes over a file that stands")
+    words.add_argument("--force", action="store_true", help="writes over a file that exists")
     words.add_argument("files", metavar="FILE", nargs="+", help="a recording")
-    given = words.parse_args()
+
+
+def run(given):
     recordings, whole = taken(given.files)
     if not recordings:
-        stop("none of these can be played, so nothing was written")
+        raise Fault("none of these can be played, so nothing was written")
     address = given.address or own_address()
     rtsp, http = free_port(address, 554, 18554), free_port(address, 8875, 18875)
     if rtsp is None or http is None:
-        stop(f"no port of {address} is free, or it isn't an address of this machine")
+        raise Fault(f"no port of {address} is free, or it isn't an address of this machine")
     write(given.to, config_text(address, rtsp, http, recordings), given.force)
     say_what_to_start(given.to, recordings)
-    sys.exit(0 if whole else 1)
-
-
-if __name__ == "__main__":
-    main()
+    return 0 if whole else 1

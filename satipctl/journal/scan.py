@@ -3,12 +3,12 @@
 `scan` reads the files of a run. Of packets, ticks and pulls it keeps places and counts; the lines
 of requests, ends, changes of a front end's work and changed reports are kept to be read in full.
 The journals of pumps are sampled if they have more bytes than a limit. Used by
-tools/show_journal.py. Needs the Debian package python3."""
+page.py."""
 import bisect
 import os
 from array import array
 
-from journal_entries import Start, Wrong, read_line
+from .entries import Start, Wrong, read_line
 
 SAMPLED_ABOVE = 1 << 28
 WINDOW = 1 << 16

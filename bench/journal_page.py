@@ -1,11 +1,11 @@
 #!/usr/bin/env python3
-"""Measures tools/show_journal.py on the journals of an hour.
+"""Measures satipctl journal page on the journals of an hour.
 
-    python3 bench/show_journal.py [--seconds SECONDS] [--packets PACKETS] [--keep FOLDER]
+    python3 bench/journal_page.py [--seconds SECONDS] [--packets PACKETS] [--keep FOLDER]
 
 Writes journals as a server with two front ends would: three RTSP sessions, one of them joined, one
 that a timeout ends and one that begins again, some refused requests, and PACKETS packets a second
-of each front end, 300 without the word. Then it runs tools/show_journal.py on them, and prints the
+of each front end, 300 without the word. Then it runs satipctl journal page on them, and prints the
 bytes of the journals, the seconds that it took and the bytes of the page. It ends with status 1 if
 the page has 5 MB or more or took 10 seconds or more. An hour takes some 2.5 GB of the temporary
 folder. With --keep the journals stay in FOLDER.
@@ -219,7 +219,7 @@ def measure(folder):
     journals = [os.path.join(folder, f"journal.{job}") for job in range(4)]
     size = sum(os.path.getsize(name) for name in journals)
     begun = time.monotonic()
-    command = [sys.executable, os.path.join(TOP, "tools", "show_journal.py"), *journals]
+    command = [os.path.join(TOP, "bin", "satipctl"), "journal", "page", *journals]
     page = subprocess.run(command, stdout=subprocess.PIPE, check=True).stdout
     took = time.monotonic() - begun
     print(f"{size} bytes of journals: {took:.1f} s, a page of {len(page)} bytes")

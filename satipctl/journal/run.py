@@ -3,13 +3,13 @@
 A journal has events and answers, not the server's state, so this follows the rules of
 docs/PROTOCOL.md. The front end of a stream is what a report or a description says of it; if there
 is none, as for a reader over HTTP, it is the one whose tuning began then or has the same multiplex.
-Used by tools/show_journal.py. Needs the Debian package python3."""
+Used by page.py."""
 import bisect
 import re
 
-from journal_entries import NO_ID, Ask, Beat, Close, Closed, Ended, Get, Got, Packet, Pull, Pulled
-from journal_entries import Replied, Request, Stop, Tick, Work, Wrong, read_line
-from journal_scan import Times
+from .entries import NO_ID, Ask, Beat, Close, Closed, Ended, Get, Got, Packet, Pull, Pulled
+from .entries import Replied, Request, Stop, Tick, Work, Wrong, read_line
+from .scan import Times
 
 TUNING_KEYS = ("fe", "src", "freq", "pol", "ro", "msys", "mtype", "plts", "sr", "fec")
 ANSWERS = {Request: Replied, Get: Got, Tick: Beat, Packet: Work, Ended: Work, Ask: Work}

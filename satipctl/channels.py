@@ -1,26 +1,22 @@
-#!/usr/bin/env python3
 """Writes the channels of a configuration, read from the tables of its recordings.
-
-    tools/channels.py CONFIG [--table | --m3u | --vdr]
 
   --table   for people: number, name, PIDs, bit rate and length of the recording, size of the
             picture (without a word too)
   --m3u     a playlist: each programme by satip:// for VLC, then each by http:// for other players
   --vdr     lines for VDR's channels.conf, for its plugin satip
 
-Needs the Debian packages python3 (3.11 or later) and ffmpeg (for ffprobe). File names of the
+Needs the Debian package ffmpeg (for ffprobe). File names of the
 configuration are those of the folder that this is started in, as for `satip serve`. A recording
 without programmes is told on standard error and left out; the status is 1 where one was, 2 where
 the configuration can't be read.
 """
 
-import argparse
 import sys
 import tomllib
 from dataclasses import dataclass
 
-sys.dont_write_bytecode = True
-from recordings import NoRecording, Programme, Recording, clock_text, probe, rate_text
+from .command import Fault
+from .recordings import NoRecording, Programme, Recording, clock_text, probe, rate_text
 
 MUX_KEYS = ("src", "freq", "pol", "msys", "sr", "file")
 PLAYLIST_GROUPS = (("satip", "SAT>IP"), ("http", "HTTP"))
@@ -138,8 +134,7 @@ def read(path):
         fault = f"no {key}"
     except (OSError, tomllib.TOMLDecodeError) as error:
         fault = error
-    print(f"{path}: {fault}", file=sys.stderr)
-    sys.exit(2)
+    raise Fault(f"{path}: {fault}")
 
 
 FORMS = (
@@ -149,19 +144,16 @@ FORMS = (
 )
 
 
-def main():
-    words = argparse.ArgumentParser(description="Writes the channels of a configuration of satip.")
+def add_words(words):
     words.add_argument("config", metavar="CONFIG", help="the configuration, as satip.toml")
     form = words.add_mutually_exclusive_group()
     for word, write, told in FORMS:
         form.add_argument(word, dest="form", action="store_const", const=write, help=told)
-    given = words.parse_args()
+
+
+def run(given):
     config, server = read(given.config)
     channels, whole = channels_of(config)
     for line in (given.form or table)(server, channels):
         print(line)
-    sys.exit(0 if whole else 1)
-
-
-if __name__ == "__main__":
-    main()
+    return 0 if whole else 1

@@ -2,8 +2,8 @@
 
 docs/PROTOCOL.md, "Lines of journals", says what a line and its record hold. `read_line` reads a
 whole line; a line that is none of a journal raises `Wrong`. `event_text`, `answer_text` and the
-others word an entry. Frequencies are in MHz, symbol rates in kS/s. Used by tools/print_journal.py
-and tools/show_journal.py. Needs the Debian package python3."""
+others word an entry. Frequencies are in MHz, symbol rates in kS/s. Used by the
+other modules here."""
 import ipaddress
 import re
 from typing import NamedTuple

@@ -1,4 +1,4 @@
-"""What recordings hold, for channels.py and new_config.py.
+"""What recordings hold, for channels, new-config and check.
 
 The tables of a transport stream (PAT, PMT, SDT; ISO 13818-1, EN 300 468) are read by ffprobe alone.
 Needs the Debian packages python3 and ffmpeg.
@@ -7,8 +7,9 @@ Needs the Debian packages python3 and ffmpeg.
 import json
 import os
 import subprocess
-import sys
 from dataclasses import dataclass, field
+
+from .command import Fault
 
 # 64 packets of 188 bytes every 20 ms: the pace of serve in bit/s without SATIP_PACE=recording.
 EVEN_PACE = 64 * 188 * 8 * 50
@@ -73,8 +74,8 @@ def ask_ffprobe(path):
     words += ["-show_programs", "-show_format", "-of", "json", f"file:{path}"]
     try:
         ran = subprocess.run(words, stdin=subprocess.DEVNULL, capture_output=True, check=False)
-    except FileNotFoundError:
-        sys.exit("ffprobe isn't installed (Debian: apt-get install ffmpeg)")
+    except FileNotFoundError as error:
+        raise Fault("ffprobe isn't installed: apt-get install ffmpeg") from error
     if ran.returncode != 0:
         lines = ran.stderr.decode(errors="replace").strip().splitlines() or ["ffprobe failed"]
         raise NoRecording(lines[-1].removeprefix(f"file:{path}: "))

@@ -1,7 +1,4 @@
-#!/usr/bin/env python3
 """Makes a page of what a server did, from its journals.
-
-    tools/show_journal.py [JOURNAL..] > run.html
 
 Reads the journals of a run, or standard input, and writes one page that needs nothing else: a band
 for each front end with its tunings, a bar for each session under its stream (owner or joined, when
@@ -15,20 +12,18 @@ says so; --whole reads all. The page has at most 5 MB: it counts the entries and
 leaves out.
 
 A line that is none of a journal is told on standard error, and the status is then 1. Whether the
-entries are one history isn't looked at: `satip audit` does that. Needs the Debian package python3.
+entries are one history isn't looked at: `satip audit` does that.
 """
-import argparse
 import bisect
 import json
 import os
 import sys
 
-sys.dont_write_bytecode = True
-from journal_entries import Request, answer_text, datagram_text, event_text, query_text
-from journal_run import Run, increments, silence_cause, silences
-from journal_scan import SAMPLED_ABOVE, missing_places, scan
+from .entries import Request, answer_text, datagram_text, event_text, query_text
+from .run import Run, increments, silence_cause, silences
+from .scan import SAMPLED_ABOVE, missing_places, scan
 
-TEMPLATE = os.path.join(os.path.dirname(os.path.abspath(__file__)), "journal_page.html")
+TEMPLATE = os.path.join(os.path.dirname(os.path.abspath(__file__)), "page.html")
 STEPS = (1000, 2000, 5000, 10000, 20000, 60000, 120000, 300000, 600000, 1800000, 3600000)
 MOST_BUCKETS = 3600
 MOST_BYTES = 4900000
@@ -409,43 +404,27 @@ def page(data):
     return template.replace("RUN_DATA", text)
 
 
-def read_options():
-    parser = argparse.ArgumentParser(
-        description=__doc__,
-        formatter_class=argparse.RawDescriptionHelpFormatter,
-        usage=argparse.SUPPRESS,
-    )
+def add_words(parser):
     parser.add_argument("--silence", type=int, default=1000, metavar="MS", help="the least gap")
     parser.add_argument("--sampled-above", type=int, default=SAMPLED_ABOVE >> 20, metavar="MIB")
     parser.add_argument("--whole", action="store_true", help="read all, however long it takes")
     parser.add_argument("journals", nargs="*", metavar="JOURNAL", help="standard input if none")
-    return parser.parse_args()
 
 
-def main():
-    options = read_options()
+def run(options):
     limit = 1 << 64 if options.whole else options.sampled_above << 20
     found = scan(options.journals, sys.stdin.buffer, limit)
-    run = Run(found)
-    buckets, scale = Buckets(run), 1.0
-    text = page(page_data(run, buckets, options.silence, scale))
+    made = Run(found)
+    buckets, scale = Buckets(made), 1.0
+    text = page(page_data(made, buckets, options.silence, scale))
     while len(text) > MOST_BYTES and scale > 0.01:
         scale /= 2
-        text = page(page_data(run, buckets, options.silence, scale))
+        text = page(page_data(made, buckets, options.silence, scale))
     sys.stdout.write(text)
     wrong = []
     for file in found.files:
         read = " of those read" if file.sampled else ""
         wrong += [f"{file.name}: line {line}{read}: {it}" for line, it in file.wrong]
-    wrong += [f"entry {place}: {it}" for place, it in run.wrong]
+    wrong += [f"entry {place}: {it}" for place, it in made.wrong]
     print(*wrong[:20], sep="\n", end="\n" if wrong else "", file=sys.stderr)
     return 1 if wrong else 0
-
-
-if __name__ == "__main__":
-    try:
-        sys.exit(main())
-    except BrokenPipeError:
-        sys.exit(0)
-    except OSError as fault:
-        sys.exit(f"{fault.filename}: {fault.strerror}")

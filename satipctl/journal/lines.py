@@ -1,24 +1,19 @@
-#!/usr/bin/env python3
 """Prints the entries of a journal for people.
-
-    tools/print_journal.py [JOURNAL..]
 
 Reads the journals, or standard input, and writes for each line `start NOW` the moment, and for each
 line `entry PLACE CALLER HEX` the place, the number of the job, the event with its fields, the
 answer, the status line and the length of the reply, and address and length of each datagram.
 With --by-place the entries of all journals come in order of their places.
 
-docs/PROTOCOL.md, "Lines of journals", says what a record is. A line that is none of these, or whose
+PROTOCOL.md, "Lines of journals", says what a record is. A line that is none of these, or whose
 record ends too early or too late, is told on standard error, and the status is then 1. Whether the
 entries are one history isn't looked at. Frequencies are in MHz, symbol rates in kS/s.
-tools/show_journal.py makes a page of the same entries. Needs the Debian package python3.
+`satipctl journal page` makes a page of the same entries.
 """
-import argparse
 import fileinput
 import sys
 
-sys.dont_write_bytecode = True
-from journal_entries import (
+from .entries import (
     Start,
     Wrong,
     answer_text,
@@ -41,19 +36,12 @@ def printed(line):
     return read.place, "\n    ".join(lines)
 
 
-def read_options():
-    parser = argparse.ArgumentParser(
-        description=__doc__,
-        formatter_class=argparse.RawDescriptionHelpFormatter,
-        usage=argparse.SUPPRESS,
-    )
+def add_words(parser):
     parser.add_argument("--by-place", action="store_true", help="entries in order of their places")
     parser.add_argument("journals", nargs="*", metavar="JOURNAL", help="standard input if none")
-    return parser.parse_args()
 
 
-def main():
-    options = read_options()
+def run(options):
     status, kept = 0, []
     with fileinput.input(options.journals or ("-",), encoding="ascii", errors="replace") as lines:
         for line in lines:
@@ -70,12 +58,3 @@ def main():
     for _, text in sorted(kept, key=lambda entry: entry[0]):
         print(text)
     return status
-
-
-if __name__ == "__main__":
-    try:
-        sys.exit(main())
-    except BrokenPipeError:
-        sys.exit(0)
-    except OSError as fault:
-        sys.exit(f"{fault.filename}: {fault.strerror}")
