@@ -2,7 +2,9 @@
 
 use crate::checks::check;
 use crate::doors::{Came, next_client, next_come, start};
-use crate::sockets::{LOCALHOST, check_heard, check_received, connect, listen, no_arrivals, socket_addr};
+use crate::sockets::{
+    LOCALHOST, check_heard, check_received, connect, listen, no_arrivals, socket_addr,
+};
 use satip_base::Text;
 use satip_host::Stop;
 use satip_real::{Carried, Listeners, RealDoors};
@@ -122,5 +124,10 @@ fn a_server_is_asked_once(rt: HostRuntime) {
     check(&rt, "a file", stop.is_asked(), true);
     check(&rt, "no number", stop.is_over(), false);
     drop(file);
-    check(&rt, "removed", (stop.is_there(), stop.is_asked()), (false, true));
+    check(
+        &rt,
+        "removed",
+        (stop.is_there(), stop.is_asked()),
+        (false, true),
+    );
 }

@@ -3,11 +3,10 @@
 use crate::report::{report_line, report_notice};
 use crate::shown::Shown;
 use satip_base::{Text, read_number};
-use std::fmt;
-use std::fs;
 use std::io::Read;
 use std::sync::atomic::{AtomicBool, AtomicU64, Ordering};
 use std::time::Clock;
+use std::{fmt, fs};
 
 // The time between two looks for the file, in milliseconds.
 const LOOK_MS: u64 = 1000;
@@ -145,7 +144,14 @@ impl Stop {
         }
         let left = self.connections.load(Ordering::SeqCst);
         let name = &self.name;
-        report_notice(&self.rt, Asked { name, left, limit_s });
+        report_notice(
+            &self.rt,
+            Asked {
+                name,
+                left,
+                limit_s,
+            },
+        );
         if left == 0 {
             self.tell_end();
         }

@@ -83,11 +83,7 @@ fn name_of(files: &[Named], mux: u16) -> Option<&Named> {
 }
 
 // Opens a recording. During a shortage, tries again for two seconds.
-fn open(
-    rt: &HostRuntime,
-    named: &Named,
-    playing: &Playing,
-) -> Result<RealRecording, RecordingFault>
+fn open(rt: &HostRuntime, named: &Named, playing: &Playing) -> Result<RealRecording, RecordingFault>
     ensures fresh { IfOk result (λ recording. recording ≡ fresh_feed []) }
 {
     for _ in 0..SHORTAGE_WAITS {

@@ -40,7 +40,10 @@ impl fmt::Display for KitsFault {
             KitsFault::Name(name) => write!(f, "{name} has no name of a file"),
             KitsFault::Stopped(name) => {
                 let name = Shown(name);
-                write!(f, "{name} asks servers to end (remove it, then start satip)")
+                write!(
+                    f,
+                    "{name} asks servers to end (remove it, then start satip)"
+                )
             }
             KitsFault::Key => write!(f, "no random bytes"),
             KitsFault::Want => write!(f, "out of memory"),
