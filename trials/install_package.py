@@ -30,7 +30,7 @@ import time
 
 sys.dont_write_bytecode = True
 from lib.checks import Checks, missing, seconds
-from lib.server import LIB, PACKETS_A_SECOND, PLAIN_PACKET, QUERY, TOP, configuration, program
+from lib.server import LIB, PACKETS_A_SECOND, QUERY, TOP, configuration, plain_packets, program
 
 SUITE, MIRROR = "bookworm", "http://deb.debian.org/debian"
 PARTS = "systemd,systemd-sysv,dbus,init-system-helpers"
@@ -155,7 +155,7 @@ def make_system(folder):
         print(ran.stdout[-500:])
         missing("a mirror of Debian")
     with open(f"{root}/srv/a.ts", "wb") as file:
-        file.write(PLAIN_PACKET * PACKETS_A_SECOND * 60)
+        file.write(plain_packets(PACKETS_A_SECOND * 60))
     return root
 
 

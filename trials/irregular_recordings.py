@@ -20,7 +20,7 @@ import tempfile
 
 sys.dont_write_bytecode = True
 from lib.checks import Checks
-from lib.server import PLAIN_PACKET, configuration, free_ports, program_words
+from lib.server import configuration, free_ports, plain_packets, program_words
 
 ADDRESS = "127.0.23.6"
 IRREGULAR = ("fifo.ts", "folder.ts", "/dev/zero", "/dev/null", "socket.ts", "link.ts")
@@ -34,7 +34,7 @@ def make_files(folder):
         sock.bind(os.path.join(folder, "socket.ts"))
     os.symlink("fifo.ts", os.path.join(folder, "link.ts"))
     with open(os.path.join(folder, "a.ts"), "wb") as file:
-        file.write(PLAIN_PACKET * 100)
+        file.write(plain_packets(100))
     os.symlink("a.ts", os.path.join(folder, "same.ts"))
 
 
