@@ -35,6 +35,6 @@ put() {
 put 755 "$program" bin/satip
 put 644 "$top/docs/satip.1" share/man/man1/satip.1
 for example in "$top"/examples/*; do
-    case $example in *.service) ;; *) put 644 "$example" "share/doc/satip/examples/${example##*/}" ;; esac
+    case $example in *.service | */recordings) ;; *) put 644 "$example" "share/doc/satip/examples/${example##*/}" ;; esac
 done
 put 644 "$unit" lib/systemd/system/satip.service

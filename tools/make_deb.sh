@@ -154,7 +154,7 @@ write_files() {
     put 644 "$folder/unit" lib/systemd/system/satip.service
     put 644 "$top/examples/satip.toml" etc/satip.toml
     for example in "$top"/examples/*; do
-        case $example in *.service) ;; *) put 644 "$example" "$doc/examples/${example##*/}" ;; esac
+        case $example in *.service | */recordings) ;; *) put 644 "$example" "$doc/examples/${example##*/}" ;; esac
     done
     write_changelog > "$folder/changelog"
     put 644 "$folder/changelog" "$doc/changelog"
