@@ -3,8 +3,8 @@
 
     tools/draw_serve.py [--to PICTURE]
 
-It makes two recordings, a configuration by tools/new_config.py, starts the server, prints its
-channels by tools/channels.py, and takes a stream by curl. Each line of the picture is one that a
+It makes two recordings, a configuration by satipctl new-config, starts the server, prints its
+channels by satipctl channels, and takes a stream by curl. Each line of the picture is one that a
 command wrote, but for the prompts and for the scratch folder's name, which is told as ~.
 
 Needs the Debian packages ffmpeg and curl, and crates/satip/out/satip (`tools/program_alone.sh` builds
@@ -23,9 +23,9 @@ from xml.sax.saxutils import escape
 
 sys.dont_write_bytecode = True
 TOP = os.path.dirname(os.path.dirname(os.path.abspath(__file__)))
-sys.path.insert(0, os.path.join(TOP, "trials"))
-from channels import read
+sys.path[:0] = [os.path.join(TOP, "trials"), TOP]
 from lib.server import program
+from satipctl.channels import read
 
 COLUMNS, LINE_HEIGHT, CHARACTER_WIDTH, EDGE = 100, 18, 7.8, 14
 STYLES = {"prompt": "#9ece6a", "told": "#c0caf5"}
@@ -105,11 +105,11 @@ def serve(screen, folder, environment, port):
 
 
 def session(screen, environment):
-    screen.run("tools/new_config.py --address 127.0.0.1 news.ts film.ts", environment)
+    screen.run("satipctl new-config --address 127.0.0.1 news.ts film.ts", environment)
     config, address = read(f"{screen.folder}/satip.toml")
     server = serve(screen, screen.folder, environment, address.rtsp_port)
     try:
-        screen.run("tools/channels.py satip.toml", environment)
+        screen.run("satipctl channels satip.toml", environment)
         freq = config["mux"][0]["freq"]
         url = address.url("http", f"freq={freq}&pol=h&msys=dvbs2&sr=22000&pids=all")
         # 124 is what timeout(1) tells of a command that it ended.
@@ -131,7 +131,7 @@ def main():
         make_recordings(folder)
         os.mkdir(f"{folder}/bin")
         os.symlink(program(), f"{folder}/bin/satip")
-        os.symlink(f"{TOP}/tools", f"{folder}/tools")
+        os.symlink(f"{TOP}/bin/satipctl", f"{folder}/bin/satipctl")
         path = f"{folder}/bin:{os.environ['PATH']}"
         session(screen, {**os.environ, "PATH": path})
     with open(given.to, "w", encoding="utf-8") as file:

@@ -23,15 +23,9 @@ import time
 import tomllib
 
 sys.dont_write_bytecode = True
-HERE = os.path.dirname(os.path.abspath(__file__))
-TOP = os.path.dirname(HERE)
-sys.path[:0] = [HERE, TOP]
-try:
-    from satipctl import channels, new_config, recordings
-except ImportError:
-    import channels
-    import new_config
-    import recordings
+TOP = os.path.dirname(os.path.dirname(os.path.abspath(__file__)))
+sys.path.insert(0, TOP)
+from satipctl import channels, new_config, recordings  # noqa: E402
 
 CARDS = [os.path.join(TOP, "examples/recordings", name) for name in ("card_1.ts", "card_2.ts")]
 CONFIG, PLAYLIST = "satip.toml", "channels.m3u"

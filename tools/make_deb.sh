@@ -3,10 +3,12 @@
 #
 #   tools/make_deb.sh PROGRAM [COMMIT [KIT]]
 #
-# The package has the program without its symbols, the manual page, the unit of systemd, the example
-# of a configuration as /etc/satip.toml, the other examples, a changelog and a copyright file. VERSION
-# is the one that the program prints. The changelog says which commit PROGRAM was built from and
-# which kit proved it: COMMIT is this checkout's without the word, KIT what `rt version` prints.
+# The package has what tools/installed_files.sh lists, the program without its symbols, the units of
+# systemd, the example of a configuration as /etc/satip.toml, a changelog and a copyright file.
+# VERSION is the one that the program prints, followed by ~gitDATE.COMMIT unless COMMIT has the tag
+# vVERSION: so it rises with each commit, and a release is above all before it. The changelog says
+# which commit PROGRAM was built from and which kit proved it: COMMIT is this checkout's without the
+# word, KIT what `rt version` prints.
 #
 # DEBFULLNAME and DEBEMAIL name the packager, as for other Debian tools; without them it is git's
 # user. Installing the package starts nothing. Ends with another status than 0, and without a package,
@@ -27,7 +29,17 @@ need() {
 
 # The moment of the commit, so that the same program makes the same package.
 moment() {
-    git -C "$top" log -1 --format=%ct 2> "$folder/null" || date +%s
+    git -C "$top" log -1 --format=%ct "$commit" 2> "$folder/null" || date +%s
+}
+
+# The version of a package: that of the program for a tagged commit, else one that rises.
+version_of() {
+    local number=$1
+    if git -C "$top" tag --points-at "$commit" 2> "$folder/null" | grep -qx "v$number"; then
+        echo "$number"
+    else
+        echo "$number~git$(date -u -d "@$SOURCE_DATE_EPOCH" +%Y%m%d%H%M%S).$commit"
+    fi
 }
 
 git_says() {
@@ -78,12 +90,18 @@ License: Apache-2.0
 END
 }
 
-# The C library's packages that the program needs.
+# The C library's packages that the program needs. Ends without a package if they aren't known.
 write_depends() {
     mkdir -p "$folder/source/debian"
     printf 'Source: satip\n\nPackage: satip\nArchitecture: any\n' > "$folder/source/debian/control"
-    (cd "$folder/source" && dpkg-shlibdeps -O "$root/usr/bin/satip" 2> "$folder/warnings") |
-        sed -n 's/^shlibs:Depends=//p'
+    (cd "$folder/source" && dpkg-shlibdeps -O "$root/usr/bin/satip" > "$folder/depends" 2> "$folder/warnings") || {
+        cat "$folder/warnings" >&2
+        exit 1
+    }
+    sed -n 's/^shlibs:Depends=//p' "$folder/depends" | grep . || {
+        echo "dpkg-shlibdeps found nothing that $program depends on" >&2
+        exit 1
+    }
 }
 
 write_control() {
@@ -93,8 +111,8 @@ Version: $version
 Architecture: $architecture
 Maintainer: $packager
 Installed-Size: $(du -k -s --apparent-size "$root" | cut -f1)
-Depends: $(write_depends)
-Suggests: ffmpeg
+Depends: $depends, python3 (>= 3.11), python3-jsonschema, python3-prometheus-client, python3-rich
+Recommends: ffmpeg
 Section: video
 Priority: optional
 Description: SAT>IP server that plays recordings
@@ -107,7 +125,8 @@ Description: SAT>IP server that plays recordings
 END
 }
 
-# Installing starts nothing: the configuration is an example until it is edited.
+# Installing starts nothing: the configuration is an example until it is edited. Installing a new
+# version restarts nothing: what serves goes on with the old one, and its viewers with it.
 write_scripts() {
     cat > "$root/DEBIAN/postinst" << 'END'
 #!/bin/sh
@@ -118,8 +137,8 @@ if [ "$1" = configure ] && command -v deb-systemd-helper > /dev/null; then
 fi
 if [ "$1" = configure ] && [ -d /run/systemd/system ]; then
     systemctl --system daemon-reload || true
-    if [ -n "$2" ]; then
-        deb-systemd-invoke try-restart satip.service || true
+    if [ -n "$2" ] && systemctl --quiet is-active 'satip.service' 'satip@*.service'; then
+        echo "satip $2 serves on until it is restarted: systemctl restart satip"
     fi
 fi
 END
@@ -127,7 +146,7 @@ END
 #!/bin/sh
 set -e
 if [ "$1" = remove ] && [ -d /run/systemd/system ]; then
-    deb-systemd-invoke stop satip.service || true
+    deb-systemd-invoke stop satip.service 'satip@*.service' || true
 fi
 END
     cat > "$root/DEBIAN/postrm" << 'END'
@@ -146,19 +165,22 @@ END
 }
 
 write_files() {
-    local doc=usr/share/doc/satip
-    put 755 "$program" usr/bin/satip
+    local doc=usr/share/doc/satip mode file place name
+    "$top/tools/installed_files.sh" "$program" "$folder" > "$folder/list"
+    while IFS=$'\t' read -r mode file place; do
+        put "$mode" "$file" "usr/$place"
+    done < "$folder/list"
     strip --remove-section=.comment --remove-section=.note "$root/usr/bin/satip"
-    put 644 "$top/docs/satip.1" usr/share/man/man1/satip.1
-    sed 's|/usr/local/bin/satip|/usr/bin/satip|' "$top/examples/satip.service" > "$folder/unit"
-    put 644 "$folder/unit" lib/systemd/system/satip.service
-    put 644 "$top/examples/satip.toml" etc/satip.toml
-    for example in "$top"/examples/*; do
-        case $example in *.service | */recordings) ;; *) put 644 "$example" "$doc/examples/${example##*/}" ;; esac
+    for name in satip.service satip@.service; do
+        sed 's|/usr/local/bin/|/usr/bin/|' "$top/examples/$name" > "$folder/$name"
+        put 644 "$folder/$name" "lib/systemd/system/$name"
     done
+    sed '1s|satip.schema.json|file:///usr/lib/satip/satip.schema.json|' "$top/examples/satip.toml" > "$folder/satip.toml"
+    put 644 "$folder/satip.toml" etc/satip.toml
+    ln -s satipctl "$root/usr/share/bash-completion/completions/satip"
     write_changelog > "$folder/changelog"
     put 644 "$folder/changelog" "$doc/changelog"
-    gzip -9 -n "$root/$doc/changelog" "$root/usr/share/man/man1/satip.1"
+    gzip -9 -n "$root/$doc/changelog" "$root/usr/share/man/man1/satip.1" "$root/usr/share/man/man1/satipctl.1"
     write_copyright > "$folder/copyright"
     put 644 "$folder/copyright" "$doc/copyright"
 }
@@ -172,17 +194,19 @@ folder=$(mktemp -d)
 trap 'rm -rf "$folder"' EXIT
 root=$folder/root
 umask 022
+commit=${2:-$(commit_of_top)}
 SOURCE_DATE_EPOCH=$(moment)
 export SOURCE_DATE_EPOCH
-version=$("$program" --version | cut -d' ' -f2)
+number=$("$program" --version | cut -d' ' -f2)
+version=$(version_of "$number")
 architecture=$(dpkg --print-architecture)
-commit=${2:-$(commit_of_top)}
 kit=${3:-$(rt version)}
 packager="${DEBFULLNAME:-$(git_says user.name)} <${DEBEMAIL:-$(git_says user.email)}>"
 write_files
 mkdir -p "$root/DEBIAN"
 write_scripts
 (cd "$root" && find lib usr -type f -print0 | LC_ALL=C sort -z | xargs -0 md5sum) > "$root/DEBIAN/md5sums"
+depends=$(write_depends)
 write_control > "$root/DEBIAN/control"
 package=satip_${version}_$architecture.deb
 dpkg-deb --root-owner-group -Zxz --build "$root" "$folder/$package" > "$folder/built"

@@ -46,7 +46,6 @@ build() {
 
 main() {
   need python3 python3
-  python3 -c 'import tomllib' 2>/dev/null || missing "python3 of 3.11 or later (apt-get install python3)"
   if [[ ${1-} == -h || ${1-} == --help ]]; then
     sed -n '2,/^set/s/^# \{0,1\}//p' "$0" | sed '$d'
     exit 0

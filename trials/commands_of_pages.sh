@@ -1,5 +1,5 @@
 #!/bin/bash
-# Every command of README and of docs/USING.md works, in the order of the pages.
+# Each command of README and of docs/USING.md works but those marked to be skipped or done by hand.
 #
 #   trials/commands_of_pages.sh [PAGE..]
 #

@@ -6,8 +6,8 @@
 tools/make_deb.sh makes the package, twice the same, and lintian has to find no error in it.
 debootstrap makes a fresh system in a scratch folder, which its own systemd boots in namespaces of the
 kernel. The package is installed there, which has to start nothing. Then satip.service serves a
-recording at port 554 as a user that isn't root, comes again when it is killed, and goes on by the
-edited configuration when the package is installed once more. When the package is removed the service
+recording at port 554 as a user that isn't root, comes again when it is killed, and serves on as the
+same process when the package is installed once more. When the package is removed the service
 ends and the configuration stays; when it is purged nothing is left.
 
 Ends with status 1 if something doesn't hold. Needs root, a mirror of Debian, cgroup version 2, and
@@ -23,19 +23,16 @@ import filecmp
 import glob
 import os
 import shutil
-import subprocess
 import sys
 import tempfile
 import time
 
 sys.dont_write_bytecode = True
-from lib.checks import Checks, missing, seconds
-from lib.server import LIB, PACKETS_A_SECOND, QUERY, TOP, configuration, plain_packets, program
+from lib.checks import Checks, seconds
+from lib.server import PACKETS_A_SECOND, QUERY, configuration, plain_packets, program
+from lib.system import System, cgroup_mount, make_package, make_system, run
 
-SUITE, MIRROR = "bookworm", "http://deb.debian.org/debian"
-PARTS = "systemd,systemd-sysv,dbus,init-system-helpers"
 PORTS = 554, 8875
-PACKAGER = {"DEBFULLNAME": "The satip authors", "DEBEMAIL": "satip@example.org"}
 # This runs in the system's network namespace.
 READER = f"""
 import socket
@@ -50,113 +47,21 @@ print(took, count)
 """
 
 
-def run(*words, **more):
-    more = {"check": True, "capture_output": True, "text": True, **more}
-    return subprocess.run(words, **more)
-
-
-class System:
-    """A booted Debian system in a folder."""
-
-    def __init__(self, root):
-        self.log = open(f"{root}.log", "w+b")
-        self.boot = subprocess.Popen(
-            [f"{LIB}/boot.sh", root], stdin=subprocess.DEVNULL, stdout=self.log, stderr=self.log
-        )
-        self.group = f"satip-trial-{self.boot.pid}"
-        for _ in range(150):
-            time.sleep(0.2)
-            if self.init() and self.says("systemctl", "is-system-running") in ("running", "degraded"):
-                return
-        self.close()
-        sys.exit(f"the system didn't boot: {open(self.log.name).read()[-1000:]}")
-
-    def init(self):
-        """The number of its first process, or None."""
-        try:
-            path = f"/proc/{self.boot.pid}/task/{self.boot.pid}/children"
-            with open(path, encoding="ascii") as file:
-                return next(iter(file.read().split()), None)
-        except FileNotFoundError:
-            return None
-
-    def inside(self, *words):
-        """Runs a command in the system."""
-        enter = ["nsenter", "--target", self.init(), "--all", "--root", "--wd"]
-        clean = ["env", "-i", "PATH=/usr/sbin:/usr/bin:/sbin:/bin", "LC_ALL=C.UTF-8"]
-        clean += ["DEBIAN_FRONTEND=noninteractive"]
-        return run(*enter, *clean, *words, check=False)
-
-    def says(self, *words):
-        return self.inside(*words).stdout.strip()
-
-    def service(self, name):
-        """A property of satip.service."""
-        return self.says("systemctl", "show", "--value", "--property", name, "satip.service")
-
-    def wait_until_active(self, not_pid="0"):
-        """Waits until the service runs as another process; returns the seconds, or None."""
-        begun = time.monotonic()
-        while time.monotonic() < begun + 15:
-            if self.service("ActiveState") == "active" and self.service("MainPID") != not_pid:
-                return time.monotonic() - begun
-            time.sleep(0.2)
-        return None
-
-    def read(self):
-        """Asks the server as a client in the system's network; returns what the client got."""
-        here = os.path.dirname(LIB)
-        words = ["nsenter", "--target", self.init(), "--net", "env", f"PYTHONPATH={here}"]
-        for _ in range(20):
-            ran = run(*words, sys.executable, "-B", "-c", READER, check=False)
-            if ran.returncode == 0:
-                return ran.stdout.strip()
-            time.sleep(0.2)
-        return ran.stderr.strip()[-200:]
-
-    def close(self):
-        self.boot.kill()
-        self.boot.wait()
-        self.log.close()
-        time.sleep(0.5)
-        for folder, _, _ in os.walk(f"{cgroup_mount()}/{self.group}", topdown=False):
-            os.rmdir(folder)
-
-
-def cgroup_mount():
-    """Where cgroup version 2 is mounted."""
-    with open("/proc/mounts", encoding="ascii") as mounts:
-        words = [line.split() for line in mounts]
-    return next((it[1] for it in words if it[2] == "cgroup2"), None) or missing("cgroup version 2")
-
-
-def make_package(checks, folder):
-    make = f"{TOP}/tools/make_deb.sh", program()
-    package = run(*make, cwd=folder, env=PACKAGER | os.environ).stdout.strip()
+def check_package(checks, folder):
+    package = make_package(folder)
     os.mkdir(f"{folder}/again")
-    run(*make, cwd=f"{folder}/again", env=PACKAGER | os.environ)
+    make_package(f"{folder}/again")
     same = filecmp.cmp(f"{folder}/{package}", f"{folder}/again/{package}", shallow=False)
     checks.check(same, f"{package}: made twice it is the same, byte for byte")
     said = run("lintian", package, cwd=folder, check=False).stdout.splitlines()
-    errors = [line for line in said if line.startswith("E:")]
-    checks.check(errors == [], f"{package}: lintian finds no error {errors}")
+    errors = [line for line in said if line.startswith(("E:", "W:"))]
+    checks.check(errors == [], f"{package}: lintian finds no error and no warning {errors}")
     for line in said:
         print(f"     {line}")
     version = run(program(), "--version").stdout.split()[1]
-    checks.check(f"_{version}_" in package, f"its version is {version}")
+    own = package.split("_")[1]
+    checks.check(own == version or own.startswith(f"{version}~git2"), f"its version is {own}")
     return package, version
-
-
-def make_system(folder):
-    root = f"{folder}/system"
-    words = ("debootstrap", "--variant=minbase", f"--include={PARTS}", SUITE, root, MIRROR)
-    ran = run(*words, check=False)
-    if ran.returncode != 0:
-        print(ran.stdout[-500:])
-        missing("a mirror of Debian")
-    with open(f"{root}/srv/a.ts", "wb") as file:
-        file.write(plain_packets(PACKETS_A_SECOND * 60))
-    return root
 
 
 def check_installed(checks, system, package, version):
@@ -181,17 +86,21 @@ def check_served(checks, system, root):
     text = configuration("127.0.0.1", PORTS, files=("/srv/a.ts",))
     with open(f"{root}/etc/satip.toml", "w", encoding="ascii") as file:
         file.write(text)
+    ran = system.inside("satipctl", "check", "--user", "nobody")
+    checks.check(ran.returncode in (0, 1), f"satipctl check: {ran.stdout.strip()} {ran.stderr.strip()}")
+    begun = time.monotonic()
     ran = system.inside("systemctl", "enable", "--now", "satip")
+    took = time.monotonic() - begun
     checks.check(ran.returncode == 0, f"systemctl enable --now satip {ran.stderr.strip()}")
-    took = system.wait_until_active()
-    checks.check(took is not None, f"it is active after {seconds(took)}")
-    got = system.read()
+    ran = system.inside("satipctl", "probe", "/etc/satip.toml")
+    checks.check(ran.returncode == 0, f"started after {seconds(took)} is answering: {ran.stdout.strip()}")
+    got = system.read(READER)
     checks.check(is_stream(got), f"a client gets a stream: {got}")
     pid = system.service("MainPID")
     user = system.says("stat", "-c", "%u", f"/proc/{pid}")
     checks.check(user not in ("", "0"), f"it isn't root: user {user}")
     said = system.says("journalctl", "--no-pager", "-o", "cat", "-u", "satip")
-    ready = [line for line in said.splitlines() if ": ready at " in line]
+    ready = [line for line in said.splitlines() if "ready at " in line]
     checks.check(len(ready) == 1, f"the journal of the system says: {ready}")
     return text, pid
 
@@ -203,12 +112,15 @@ def check_goes_on(checks, system, package, root, text, pid):
     checks.check(took is not None, f"killed, it is active again after {seconds(took)}")
     pid = system.service("MainPID")
     ran = system.inside("dpkg", "-i", f"/root/{package}")
-    took = system.wait_until_active(pid)
-    again = ran.returncode == 0 and took is not None
-    checks.check(again, f"installed once more, it is active again after {seconds(took)}")
+    time.sleep(1)
+    same = ran.returncode == 0 and system.service("MainPID") == pid
+    checks.check(same, "installed once more, the process serves on")
+    checks.check("serves on until it is restarted" in ran.stdout, "dpkg says so, and how to restart it")
+    ran = system.inside("systemctl", "restart", "satip")
+    checks.check(ran.returncode == 0 and system.service("MainPID") != pid, "systemctl restart satip")
     with open(f"{root}/etc/satip.toml", encoding="ascii") as file:
         checks.check(file.read() == text, "the edited configuration stays")
-    got = system.read()
+    got = system.read(READER)
     checks.check(is_stream(got), f"a client gets a stream: {got}")
 
 
@@ -221,6 +133,7 @@ def is_stream(got):
 def left(root):
     """The files of the package that are there."""
     files = ["usr/bin/satip", "usr/share/man/man1/satip.1.gz", "lib/systemd/system/satip.service"]
+    files += ["usr/bin/satipctl", "usr/lib/satip", "lib/systemd/system/satip@.service"]
     files += ["usr/share/doc/satip", "etc/satip.toml"]
     files += ["etc/systemd/system/multi-user.target.wants/satip.service"]
     there = [it for it in files if os.path.lexists(f"{root}/{it}")]
@@ -242,8 +155,10 @@ def main():
     checks = Checks()
     cgroup_mount()
     with tempfile.TemporaryDirectory(prefix="satip-") as folder:
-        package, version = make_package(checks, folder)
+        package, version = check_package(checks, folder)
         root = make_system(folder)
+        with open(f"{root}/srv/a.ts", "wb") as file:
+            file.write(plain_packets(PACKETS_A_SECOND * 60))
         shutil.copy(f"{folder}/{package}", f"{root}/root")
         system = System(root)
         try:

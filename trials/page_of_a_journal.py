@@ -1,5 +1,5 @@
 #!/usr/bin/env python3
-"""`tools/show_journal.py` shows the sessions, refusals and gaps that clients made.
+"""`satipctl journal page` shows the sessions, refusals and gaps that clients made.
 
     trials/page_of_a_journal.py [--keep FOLDER]
 
@@ -281,7 +281,7 @@ def serve(folder):
 def page_of(folder, name, *words):
     """Makes the page of the journals of a folder; returns its data, its text and the seconds taken."""
     begun, path = time.monotonic(), os.path.join(folder, name)
-    words = [sys.executable, os.path.join(TOP, "tools", "show_journal.py"), *words]
+    words = [os.path.join(TOP, "bin", "satipctl"), "journal", "page", *words]
     words += sorted(glob.glob(os.path.join(folder, "journal.*")))
     with open(path, "wb") as page:
         subprocess.run(words, stdout=page, check=True)

@@ -47,6 +47,13 @@ HEAD = """\
 `trials/run.py` runs the trials and writes this page. A trial runs the built program against real clients, networks and faults. Trials aren't part of the gate.
 
 A trial passes, fails, or misses what its result names: a package, a right, a file, or a part of the kernel. Each row is the last run of its trial.
+
+## Wrong bodies
+
+`trials/try_edits.py` gave the prover 767 wrong bodies, and it refused all. A must-fail edit of `crates/*/must-fail` is tried by the gate, 59 of them; the
+others are in `trials/edits`. Of the refusals, 144 say little of a contract: 128 are goals that the search left open at its limit, and 16 miss a name that
+the edit took away. The other 623 each name the clause that is false of the wrong body. `trials/try_edits.py --table` prints the list, from
+`trials/edits/results.jsonl`.
 """
 
 

@@ -32,11 +32,11 @@ A run that was stopped goes on where it was. The folder --kept has the result of
 content of the edit, of its crate and of all crates below, and by the kit; the libraries, by their
 content, in another folder with --libraries; and the proved crate whose edits are being tried. It is
 satip-edits-KIT in the folder of temporary files. A result NOT TRIED isn't kept. --anew takes no
-kept result. --table tries nothing, and prints and writes what is kept.
+kept result.
 
 If no crate is named and neither --gate nor --outside is given, the rows are written to
-docs/EDITS.md, and what later runs need of them to trials/edits/results.jsonl. So a run on another
-machine tries what changed since. --page writes the rows to FILE.
+trials/edits/results.jsonl. So a run on another machine tries what changed since. --page writes the
+rows to FILE as a page. --table tries nothing, and prints results.jsonl as a page.
 
 --read only applies each edit, has `rattle fmt` read the result, compares the bodies, and proves
 nothing.
@@ -67,7 +67,6 @@ sys.dont_write_bytecode = True
 TOP = os.path.dirname(os.path.dirname(os.path.abspath(__file__)))
 CRATES = os.path.join(TOP, "crates")
 EDITS = os.path.join(TOP, "trials", "edits")
-PAGE = os.path.join(TOP, "docs", "EDITS.md")
 RESULTS = os.path.join(TOP, "trials", "edits", "results.jsonl")
 ONE_JOB = ["--jobs", "1"]
 FAILED, UNTRIED = "NOT REFUSED", "NOT TRIED"
@@ -77,7 +76,7 @@ WIDTH, COLUMNS, OVER = 150, 160, 0.7
 HEAD = """\
 # Edits
 
-`trials/try_edits.py` tries the edits and writes this page. Each is a wrong body, which the prover must refuse.
+`trials/try_edits.py` tries the edits. Each is a wrong body, which the prover must refuse.
 The gate tries those with a *yes*. The others are in `trials/edits`. A mark says where a refusal says little of the contract; the script explains each.
 """
 # What the prover prints: a goal without a proof, a failed term of a proof file, and its own limits.
@@ -562,20 +561,26 @@ def line_of(row):
     return begin + (f"`{where}`" if where else "") + end
 
 
-def write_page(file, rows, kit):
-    """Writes the page: when and with what it ran, the counts, and a table for each crate."""
+def page_of(rows, **run):
+    """A page: with what it ran, the counts, and a table for each crate."""
     marks = collections.Counter(row.mark for row in rows if row.mark)
     counts = ", ".join(f"{count} {mark}" for mark, count in sorted(marks.items())) or "none"
-    today, gate = datetime.date.today().isoformat(), sum(row.gate for row in rows)
-    seconds = sum(row.seconds for row in rows)
-    head = (today, commit(), kit, len(rows), gate, counts, round(seconds / 60))
-    text = [HEAD, "| date | commit | kit | edits | of the gate | marks | minutes of their checks |"]
-    text += ["|---|---|---|---|---|---|---|", "| " + " | ".join(map(str, head)) + " |"]
+    head = run | {"edits": len(rows), "of the gate": sum(row.gate for row in rows), "marks": counts}
+    head["minutes of their checks"] = round(sum(row.seconds for row in rows) / 60)
+    text = [HEAD, f"| {' | '.join(head)} |", "|---" * len(head) + "|"]
+    text += [f"| {' | '.join(map(str, head.values()))} |"]
     for crate in sorted({row.crate for row in rows}):
         text += ["", f"## {crate}", "", "| edit | gate | refused at | seconds | mark |"]
         text += ["|---|---|---|---|---|", *(line_of(row) for row in rows if row.crate == crate)]
-    with open(file, "w", encoding="utf-8") as page:
-        page.write("\n".join(text) + "\n")
+    return "\n".join(text) + "\n"
+
+
+def print_table():
+    """Prints the results that the repository has."""
+    with open(RESULTS, encoding="utf-8") as file:
+        told = [json.loads(line) for line in file]
+    print(page_of([Row(*(it[name] for name in Row._fields)) for it in told]), end="")
+    return 0
 
 
 def output_of(*words):
@@ -598,8 +603,8 @@ def rows_of(run, edits, given):
             run.show(Row(*edit[:2], edit.gate, "there is no such crate", 0, UNTRIED), edit)
             continue
         row = None if given.anew else run.results.find(edit, run.sums[edit.crate])
-        if row or given.table:
-            run.show(row or Row(*edit[:2], edit.gate, "not tried yet", 0, UNTRIED), edit)
+        if row:
+            run.show(row, edit)
         else:
             left.setdefault(edit.crate, []).append(edit)
     if left:
@@ -608,7 +613,7 @@ def rows_of(run, edits, given):
 
 
 def try_all(rt, edits, given):
-    """Tries the edits, prints their rows, and writes the page."""
+    """Tries the edits, prints their rows, and keeps them."""
     kit = output_of("rt", "version")
     usual = os.path.join(tempfile.gettempdir(), f"satip-edits-{(kit.split() or ['kit'])[0]}")
     kept = os.path.abspath(given.kept or usual)
@@ -620,7 +625,9 @@ def try_all(rt, edits, given):
         rows = rows_of(run, edits, given)
         os.chdir(TOP)
     if given.page:
-        write_page(given.page, rows, kit)
+        today = datetime.date.today().isoformat()
+        with open(given.page, "w", encoding="utf-8") as page:
+            page.write(page_of(rows, date=today, commit=commit(), kit=kit))
     if given.is_whole:
         results.save(run, edits)
     bad = [row for row in rows if row.mark in (FAILED, UNTRIED)]
@@ -687,13 +694,15 @@ def main():
     for name in ("--anew", "--table", "--read"):
         parser.add_argument(name, action="store_true")
     given = parser.parse_args()
+    if given.table:
+        return print_table()
     rt, edits = load_rt(), edits_by_crate(given)
     if given.read:
         return read_all(rt, edits)
     if given.jobs:
         os.environ["RT_JOBS"] = str(given.jobs)
     given.is_whole = not (given.crates or given.gate or given.outside)
-    given.page = os.path.abspath(given.page) if given.page else PAGE if given.is_whole else None
+    given.page = os.path.abspath(given.page) if given.page else None
     try:
         return try_all(rt, edits, given)
     except KeyboardInterrupt:

@@ -1,9 +1,9 @@
 #!/usr/bin/env python3
-"""VLC plays the second entry of the playlist of channels.py, and VDR records from its second line.
+"""VLC plays the second entry of the playlist of satipctl, and VDR records from its second line.
 
     trials/vlc_and_vdr.py
 
-It makes two recordings with pictures of different sizes, a configuration by tools/new_config.py,
+It makes two recordings with pictures of different sizes, a configuration by satipctl new-config,
 and starts a server at 127.0.0.1. VLC opens the whole playlist, is told to go to the next entry, and
 has to show pictures of the second size. VDR gets a timer for channel 2 of its channels.conf, and
 what it records has to have pictures of the second size too. As root VLC runs as nobody. Ends with
@@ -139,7 +139,7 @@ def try_vdr(folder, server):
 
 
 def channels(folder, form):
-    words = [f"{TOP}/tools/channels.py", f"{folder}/satip.toml", form]
+    words = [f"{TOP}/bin/satipctl", "channels", f"{folder}/satip.toml", form]
     return subprocess.run(words, cwd=folder, text=True, capture_output=True, check=True).stdout
 
 
@@ -148,7 +148,7 @@ def main():
         os.chmod(folder, 0o755)
         for name, size in SIZES.items():
             make_recording(f"{folder}/{name}", size)
-        config = [f"{TOP}/tools/new_config.py", "--address", "127.0.0.1", *SIZES]
+        config = [f"{TOP}/bin/satipctl", "new-config", "--address", "127.0.0.1", *SIZES]
         subprocess.run(config, cwd=folder, check=True, stdout=subprocess.DEVNULL)
         with open(f"{folder}/channels.m3u", "w", encoding="utf-8") as file:
             file.write(channels(folder, "--m3u"))

@@ -7,4 +7,6 @@ pub mod SessionLemmas
 pub mod BitLemmas
 pub mod RowLemmas
 pub mod Passing
-pub mod Remarking
+pub mod SlotMaps
+pub mod Rewriting
+pub mod Marking

@@ -9,6 +9,7 @@ use Rattle.satip_base.specs.Output.{Output}
 use Rattle.satip_rtp.specs.Sending.{SendsAll}
 use Rattle.satip_flow.specs.Subscription.{Subscription, selects, given, given_datagrams, meets_full, has_slot, is_full, fed, fed_datagrams}
 use Rattle.satip_flow.specs.Standing.{HoldsOfAt, ChangesAt}
+use Rattle.satip_flow.specs.Rows.{bit}
 use Rattle.satip_flow.proofs.Sweep.{sweep, length-sweep, sweep-next, sweep-more, sweep-all, flat_map-more}
 use Rattle.satip_flow.proofs.Sends.{nothing_sent, ◌then_sends◌, max-marks}
 use Rattle.satip_flow.proofs.RoomLemmas.{someone}
@@ -82,10 +83,14 @@ passed front packet clock xs before from to now out overrun h none given_to = re
       ap (λ t. (t && is_full s.feed) && has_slot slot s) (none i le lt d inside)))));
 }
 
--- whose bit is clear selects nothing
-pub not_selected : (bit : ℕ) (t : Bool) → (t ≡ true → bit ≡ 1) → bit ≡ 0 → t ≡ false
-not_selected bit true h zeros = let one = h refl in absurd (omega (arith, one, zeros))
-not_selected bit false h zeros = refl
+-- whose bit is clear selects nothing, and whose bit is set selects the packet
+pub not_selected : (n : ℕ) (t : Bool) → n ≡ bit t → n ≡ 0 → t ≡ false
+not_selected n true h zeros = absurd (omega (arith, h, zeros))
+not_selected n false h zeros = refl
+
+pub is_selected : (n : ℕ) (t : Bool) → n ≡ bit t → n ≡ 1 → t ≡ true
+is_selected n true h one = refl
+is_selected n false h one = absurd (omega (arith, h, one))
 
 -- at first nobody was given it
 pub given_none : (front : ℕ) (packet : List ℕ) (clock : ℕ) (xs : List Subscription) (before : Output) → IsGivenTo front packet clock xs before 0 xs before 0

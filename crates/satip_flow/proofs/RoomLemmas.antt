@@ -10,10 +10,11 @@ use Rattle.satip_flow.specs.Subscription.{Subscription, Feed, ToAddress, ToQueue
 use Rattle.satip_flow.specs.Subscriptions.{put, SlotsApart}
 use Rattle.satip_flow.specs.Queues.{has_queue}
 use Rattle.satip_flow.specs.Rooms.{IsSound}
-use Rattle.satip_flow.specs.Rows.{IsShown, AllShown, IsPlaced}
+use Rattle.satip_flow.specs.Rows.{IsMarked, IsPlaced}
 use Rattle.satip_flow.proofs.Slots.{apart-map, apart-put, fewer_than_64}
 use Rattle.satip_flow.proofs.Order.{count-put}
-use Rattle.satip_flow.proofs.RowLemmas.{shown_map, placed_map}
+use Rattle.satip_flow.proofs.RowLemmas.{placed_map}
+use Rattle.satip_flow.proofs.Marking.{KeepsChoice, marked_map}
 
 -- a subscriber that stands for those that aren't there
 pub someone : Subscription
@@ -85,27 +86,24 @@ count-map p f keeps (x ∷ xs) =
     let same : mark (p (f x)) ≡ mark (p x) = ap mark (keeps x) in
     omega (arith, same, count-map p f keeps xs, sum_by-cons (λ y. cond (p y) 1 0) (f x) (map f xs), sum_by-cons (λ y. cond (p y) 1 0) x xs)
 
--- a change that keeps who is marked
-abbrev pub KeepsShown : (Subscription → Subscription) → Type 0
-KeepsShown f = (rows : List ℕ) (s : Subscription) → IsShown rows s → IsShown rows (f s)
+-- a change that keeps the front end and the PIDs
+pub feed_choice : (feed : Subscription → Feed) → KeepsChoice (λ s. record s { feed = feed s })
+feed_choice feed = record { place = λ s. refl; front = λ s. refl; pids = λ s. refl }
 
-pub feed_shown : (feed : Subscription → Feed) → KeepsShown (λ s. record s { feed = feed s })
-feed_shown feed = λ rows s shown. record { front = shown.front; marked = shown.marked }
+pub some_choice : (p : Subscription → Bool) (f : Subscription → Subscription) → KeepsChoice f → KeepsChoice (λ s. cond (p s) (f s) s)
+some_choice p f k = record {
+  place = keeps_where (λ s. s.place) p f k.place;
+  front = keeps_where (λ s. s.front) p f k.front;
+  pids = keeps_where (λ s. s.pids) p f k.pids;
+}
 
-pub some_shown : (p : Subscription → Bool) (f : Subscription → Subscription) → KeepsShown f → KeepsShown (λ s. cond (p s) (f s) s)
-some_shown p f keeps = λ rows s shown. each rows s shown (p s)
-  where
-    each : (rows : List ℕ) (s : Subscription) → IsShown rows s → (t : Bool) → IsShown rows (cond t (f s) s)
-    each rows s shown true = keeps rows s shown
-    each rows s shown false = shown
-
-pub given_shown : (front : ℕ) (packet : List ℕ) → KeepsShown (given front packet)
-given_shown front packet = some_shown (selects front packet) (λ s. record s { feed = fed packet s.feed }) (feed_shown (λ s. fed packet s.feed))
+pub given_choice : (front : ℕ) (packet : List ℕ) → KeepsChoice (given front packet)
+given_choice front packet = some_choice (selects front packet) (λ s. record s { feed = fed packet s.feed }) (feed_choice (λ s. fed packet s.feed))
 
 pub sound_changed : (f g : Inside) (h : Subscription → Subscription) → KeepsSeat h → g.subscribers.items ≡ map h f.subscribers.items
-    → vec_capacity g.subscribers ≡ vec_capacity f.subscribers → g.spare_queues ≡ f.spare_queues → g.places ≡ f.places → vec_len g.rows ≡ 2048
-    → AllShown g.rows.items g.subscribers.items → IsSound f → IsSound g
-sound_changed f g h keeps items capacity spare places row_count shown sound =
+    → vec_capacity g.subscribers ≡ vec_capacity f.subscribers → g.spare_queues ≡ f.spare_queues → g.places ≡ f.places → vec_len g.rows ≡ 131072
+    → IsMarked g.rows.items g.alike g.subscribers.items → IsSound f → IsSound g
+sound_changed f g h keeps items capacity spare places row_count marked sound =
     let count = ap (λ xs. count_by has_queue xs) items ∙ count-map has_queue h keeps.queue f.subscribers.items in
     record {
       apart = subst (λ xs. SlotsApart xs) (sym items) (apart-map h keeps.place f.subscribers.items sound.apart);
@@ -116,28 +114,29 @@ sound_changed f g h keeps items capacity spare places row_count shown sound =
           ∙ ap (λ n. vec_len f.spare_queues + n) count ∙ sound.all_queues;
       row_count = row_count;
       place_count = ap (λ ps. length ps) places ∙ sound.place_count;
-      shown = shown;
+      marked = marked;
       placed = subst (λ ps. IsPlaced ps g.subscribers.items) (sym places)
           (subst (λ xs. IsPlaced f.places xs) (sym items) (placed_map f.places h keeps.place f.subscribers.items sound.placed));
     }
 
 -- front ends and PIDs stay
-pub sound_kept : (f g : Inside) (h : Subscription → Subscription) → KeepsSeat h → KeepsShown h → g.subscribers.items ≡ map h f.subscribers.items
+pub sound_kept : (f g : Inside) (h : Subscription → Subscription) → KeepsSeat h → KeepsChoice h → g.subscribers.items ≡ map h f.subscribers.items
     → vec_capacity g.subscribers ≡ vec_capacity f.subscribers → g.spare_queues ≡ f.spare_queues → g.places ≡ f.places → g.rows ≡ f.rows
-    → IsSound f → IsSound g
-sound_kept f g h keeps marked items capacity spare places rows sound =
+    → g.alike ≡ f.alike → IsSound f → IsSound g
+sound_kept f g h keeps choice items capacity spare places rows known sound =
     sound_changed f g h keeps items capacity spare places (ap (λ rs. vec_len rs) rows ∙ sound.row_count)
-    (subst (λ rs. AllShown rs.items g.subscribers.items) (sym rows)
-    (subst (λ xs. AllShown f.rows.items xs) (sym items) (shown_map f.rows.items h (marked f.rows.items) f.subscribers.items sound.shown)))
+    (subst (λ rs. IsMarked rs.items g.alike g.subscribers.items) (sym rows)
+    (subst (λ n. IsMarked f.rows.items n g.subscribers.items) (sym known)
+    (subst (λ xs. IsMarked f.rows.items f.alike xs) (sym items) (marked_map f.rows.items f.alike h f.subscribers.items choice sound.marked))))
     sound
 
 -- one more subscriber, with a free slot
 pub sound_put : (f g : Inside) (s : Subscription) → s.place.slot < 64 → list_any (has_slot s.place.slot) f.subscribers.items ≡ false
     → g.subscribers.items ≡ put s f.subscribers.items → vec_capacity f.subscribers ≤ vec_capacity g.subscribers
     → vec_capacity g.spare_queues ≡ vec_capacity f.spare_queues → All (λ queue. queue ≡ buffer [] 4096) g.spare_queues.items
-    → vec_len g.spare_queues + cond (has_queue s) 1 0 ≡ vec_len f.spare_queues → vec_len g.rows ≡ 2048 → length g.places ≡ 64
-    → AllShown g.rows.items (put s f.subscribers.items) → IsPlaced g.places g.subscribers.items → IsSound f → IsSound g
-sound_put f g s inside free items capacity queue_capacity queues spare row_count place_count shown placed sound = record {
+    → vec_len g.spare_queues + cond (has_queue s) 1 0 ≡ vec_len f.spare_queues → vec_len g.rows ≡ 131072 → length g.places ≡ 64
+    → IsMarked g.rows.items g.alike (put s f.subscribers.items) → IsPlaced g.places g.subscribers.items → IsSound f → IsSound g
+sound_put f g s inside free items capacity queue_capacity queues spare row_count place_count marked placed sound = record {
   apart = subst (λ xs. SlotsApart xs) (sym items) (apart-put s f.subscribers.items inside free sound.apart);
   room = omega (arith, sound.room, capacity);
   queue_room = omega (arith, sound.queue_room, queue_capacity);
@@ -146,7 +145,7 @@ sound_put f g s inside free items capacity queue_capacity queues spare row_count
       ∙ omega (arith, spare, sound.all_queues, count-put has_queue s f.subscribers.items);
   row_count = row_count;
   place_count = place_count;
-  shown = subst (λ xs. AllShown g.rows.items xs) (sym items) shown;
+  marked = subst (λ xs. IsMarked g.rows.items g.alike xs) (sym items) marked;
   placed = placed;
 }
 

@@ -1,96 +1,21 @@
--- Subscribers stay marked where they select, when another slot is marked anew.
-use Rattle.std.proofs.Common.{ℕ, ◌≡◌, ◌≢◌, ◌+◌, ◌*◌, ◌/◌, ◌%◌, ◌<◌, ◌≤◌, zero, suc, Bool, true, false, cond, not, eqb, ◌&&◌, ◌||◌, List, [], ◌∷◌, length, map, set, get_or, bit_or, w64, ◌^◌, inl, inr, ◌⊎◌, Option, refl, sym, ap, subst, ◌∙◌, arith}
+-- Whoever selects a packet is found by its slot's mark and place.
+use Rattle.std.proofs.Common.{ℕ, ◌≡◌, ◌≢◌, ◌+◌, ◌*◌, ◌/◌, ◌%◌, ◌<◌, ◌≤◌, zero, suc, Bool, true, false, cond, eqb, ◌&&◌, ◌||◌, List, [], ◌∷◌, length, map, set, get_or, bit_or, w64, ◌^◌, inl, inr, ◌⊎◌, Option, Some, None, refl, sym, ap, subst, ◌∙◌, arith}
 use Rattle.std.proofs.lemmas.Bool.{false≢true, cases_eq, cases_lt, eq-eqb, and_parts, or_parts}
 use Rattle.std.proofs.lemmas.Bool.Decides.{nat_tests}
 use Rattle.std.proofs.lemmas.Grind.{get_or-set_at}
 use Rattle.std.proofs.lemmas.List.{length-map, get_or-set_other, get_or_past, set-get_or}
-use Rattle.std.proofs.lemmas.Nat.Bits.{bit_at-zero, bit_at_set_same, bit_at_set_other}
-use Rattle.std.specs.Int.{bit_at}
+use Rattle.std.proofs.lemmas.Nat.Bits.{bit_at-zero, bit_at_set_same, bit_at_set_other, bit_at-trailing_zeros}
+use Rattle.std.specs.Int.{bit_at, trailing_zeros}
 use Rattle.std.specs.List.{list_any}
 use Rattle.satip_ts.specs.Packet.{pid_of}
-use Rattle.satip_pids.specs.Pids.{Pids, has_pid}
-use Rattle.satip_flow.specs.declared.place.Place.{Place}
-use Rattle.satip_flow.specs.Subscription.{Subscription, Feed, subscription, has_slot, is_at, is_of, takes, selects, changed}
-use Rattle.satip_flow.specs.Subscriptions.{SlotsApart, IsFrontOrNone, comes_before, put, without}
+use Rattle.satip_flow.specs.Subscription.{Subscription, has_slot, takes, selects}
+use Rattle.satip_flow.specs.Subscriptions.{SlotsApart, of_slot}
 use Rattle.satip_flow.specs.Bits.{IsNextBit}
 use Rattle.satip_flow.specs.Standing.{IsNowhere}
-use Rattle.satip_flow.specs.Rows.{marks, IsMarked, KeepsOthers, IsShown, AllShown, IsPlaced, NoneMarked}
+use Rattle.satip_flow.specs.Rows.{bit, marks, holds_of, IsMarked, IsPlaced, NoneMarked}
 use Rattle.satip_flow.proofs.Slots.{slot_is, read_same, slot_below, at_most_64, nowhere}
-
--- two changes of one slot are a change of it
-pub keeps_both : (slot : ℕ) (a b c : List ℕ) → KeepsOthers slot a b → KeepsOthers slot b c → KeepsOthers slot a c
-keeps_both slot a b c first second = λ at other below differs. second at other below differs ∙ first at other below differs
-
-keeps_marked : (slot other : ℕ) (old new : List ℕ) (own : Option ℕ) (pids : Pids) → KeepsOthers slot old new → other < 64 → other ≢ slot
-    → IsMarked old other own pids → IsMarked new other own pids
-keeps_marked slot other old new own pids keeps below differs marked = λ front pid at within has. each front pid (marked front pid at within has)
-  where
-    each : (front pid : ℕ) → bit_at (marks old front pid) other ≡ 1 → bit_at (marks new front pid) other ≡ 1
-    each zero pid h = h
-    each (suc front) pid h = keeps (128 * front + pid / 64) other below differs ∙ h
-
--- a subscriber of another slot stays marked
-keeps_shown : (slot : ℕ) (old new : List ℕ) (s : Subscription) → KeepsOthers slot old new → s.place.slot < 64 → has_slot slot s ≡ false → IsShown old s
-    → IsShown new s
-keeps_shown slot old new s keeps below lacks shown =
-    let differs : s.place.slot ≢ slot = grind (arith, nat_tests, lacks) in
-    record {
-      front = shown.front;
-      marked = keeps_marked slot s.place.slot old new s.front s.pids keeps below differs shown.marked;
-    }
-
-all_kept : (slot : ℕ) (old new : List ℕ) (xs : List Subscription) → KeepsOthers slot old new → SlotsApart xs → list_any (has_slot slot) xs ≡ false
-    → AllShown old xs → AllShown new xs
-all_kept slot old new [] keeps apart none shown = tt
-all_kept slot old new (x ∷ xs) keeps (below, apart, rest) none (one, others) =
-    let (lacks, free) = or_parts (has_slot slot x) (list_any (has_slot slot) xs) none in
-    (keeps_shown slot old new x keeps below lacks one, all_kept slot old new xs keeps rest free others)
-
--- one more is marked, and the others stay so
-pub shown_put : (old new : List ℕ) (s : Subscription) (xs : List Subscription) → KeepsOthers s.place.slot old new → SlotsApart xs
-    → list_any (has_slot s.place.slot) xs ≡ false → IsShown new s → AllShown old xs → AllShown new (put s xs)
-shown_put old new s [] keeps apart none one shown = (one, tt)
-shown_put old new s (x ∷ xs) keeps (below, apart, rest) none one (first, others) =
-    let (lacks, free) = or_parts (has_slot s.place.slot x) (list_any (has_slot s.place.slot) xs) none in
-    each (comes_before s.place x.place) (keeps_shown s.place.slot old new x keeps below lacks first)
-    (all_kept s.place.slot old new xs keeps rest free others) (shown_put old new s xs keeps rest free one others)
-  where
-    each : (t : Bool) → IsShown new x → AllShown new xs → AllShown new (put s xs) → AllShown new (cond t (s ∷ x ∷ xs) (x ∷ put s xs))
-    each true kept all later = (one, (kept, all))
-    each false kept all later = (kept, later)
-
-pub shown_added : (old new : List ℕ) (xs : List Subscription) (s : Subscription) (place : Place) (front : Option ℕ) (pids : Pids) (feed : Feed)
-    → s ≡ subscription place front pids feed → IsFrontOrNone front → IsMarked new place.slot front pids → KeepsOthers place.slot old new → SlotsApart xs
-    → list_any (has_slot place.slot) xs ≡ false → AllShown old xs → AllShown new (put s xs)
-shown_added old new xs s place front pids feed is within marked keeps apart free shown =
-    subst (λ one. AllShown new (put one xs)) (sym is)
-    (shown_put old new (subscription place front pids feed) xs keeps apart free (record { front = within; marked = marked }) shown)
-
--- one is gone
-pub shown_without : (slot : ℕ) (old new : List ℕ) (xs : List Subscription) → KeepsOthers slot old new → SlotsApart xs → AllShown old xs
-    → AllShown new (without slot xs)
-shown_without slot old new [] keeps apart shown = tt
-shown_without slot old new (x ∷ xs) keeps (below, apart, rest) (one, others) = each (has_slot slot x) refl (shown_without slot old new xs keeps rest others)
-  where
-    each : (t : Bool) → has_slot slot x ≡ t → AllShown new (without slot xs) → AllShown new (cond (not t) (x ∷ without slot xs) (without slot xs))
-    each true e all = all
-    each false e all = (keeps_shown slot old new x keeps below e one, all)
-
--- one is changed where it stands
-any-set : (slot : ℕ) (xs : List Subscription) (i : ℕ) (d y : Subscription) → y.place ≡ (get_or xs i d).place → i < length xs
-    → list_any (has_slot slot) (set xs i y) ≡ list_any (has_slot slot) xs
-any-set slot [] i d y same h = absurd (omega (arith, h))
-any-set slot (x ∷ xs) zero d y same h = ap (λ place. eqb place.slot slot || list_any (has_slot slot) xs) same
-any-set slot (x ∷ xs) (suc i) d y same h = ap (λ t. has_slot slot x || t) (any-set slot xs i d y same (omega (arith, h)))
-
-pub apart-set : (xs : List Subscription) (i : ℕ) (d y : Subscription) → y.place ≡ (get_or xs i d).place → i < length xs → SlotsApart xs
-    → SlotsApart (set xs i y)
-apart-set [] i d y same h apart = absurd (omega (arith, h))
-apart-set (x ∷ xs) zero d y same h (below, apart, rest) =
-    (subst (λ place. place.slot < 64) (sym same) below, ap (λ place. list_any (has_slot place.slot) xs) same ∙ apart, rest)
-apart-set (x ∷ xs) (suc i) d y same h (below, apart, rest) =
-    let inside : i < length xs = omega (arith, h) in
-    (below, any-set x.place.slot xs i d y same inside ∙ apart, apart-set xs i d y same inside rest)
+use Rattle.satip_flow.proofs.SlotMaps.{passing, at_slot, found_at, found_any, none_any}
+use Rattle.satip_flow.proofs.Marking.{bit_true}
 
 -- one slot is not another's
 lacks_at : (slot : ℕ) (xs : List Subscription) (i : ℕ) (d : Subscription) → list_any (has_slot slot) xs ≡ false → i < length xs
@@ -101,22 +26,6 @@ lacks_at slot (x ∷ xs) (suc i) d none h = lacks_at slot xs i d (or_parts (has_
 
 eqb_other : (a b : ℕ) → eqb a b ≡ false → eqb b a ≡ false
 eqb_other a b h = grind (arith, nat_tests)
-
-pub shown_set : (old new : List ℕ) (xs : List Subscription) (i : ℕ) (d y : Subscription) → i < length xs → SlotsApart xs
-    → KeepsOthers (get_or xs i d).place.slot old new → IsShown new y → AllShown old xs → AllShown new (set xs i y)
-shown_set old new [] i d y h apart keeps one shown = absurd (omega (arith, h))
-shown_set old new (x ∷ xs) zero d y h (below, apart, rest) keeps one (first, others) = (one, all_kept x.place.slot old new xs keeps rest apart others)
-shown_set old new (x ∷ xs) (suc i) d y h (below, apart, rest) keeps one (first, others) =
-    let inside : i < length xs = omega (arith, h) in
-    let slot = (get_or xs i d).place.slot in
-    let lacks : has_slot slot x ≡ false = eqb_other slot x.place.slot (lacks_at x.place.slot xs i d apart inside) in
-    (keeps_shown slot old new x keeps below lacks first, shown_set old new xs i d y inside rest keeps one others)
-
--- what keeps the place, the front end and the PIDs
-pub shown_map : (rows : List ℕ) (f : Subscription → Subscription) → ((s : Subscription) → IsShown rows s → IsShown rows (f s)) → (xs : List Subscription)
-    → AllShown rows xs → AllShown rows (map f xs)
-shown_map rows f keeps [] shown = tt
-shown_map rows f keeps (x ∷ xs) (one, others) = (keeps x one, shown_map rows f keeps xs others)
 
 place_map : (f : Subscription → Subscription) → ((s : Subscription) → (f s).place ≡ s.place) → (xs : List Subscription) (i : ℕ) (d : Subscription)
     → i < length xs → (get_or (map f xs) i d).place ≡ (get_or xs i d).place
@@ -130,42 +39,6 @@ placed_map places f keeps xs placed = λ at d within.
     let inside : at < length xs = omega (arith, within, length-map xs f) in
     ap (λ place. get_or places place.slot 0) (place_map f keeps xs at d inside) ∙ placed at d inside
 
--- so whoever selects a packet is found
-pub shown_at : (rows : List ℕ) (xs : List Subscription) (i : ℕ) (d : Subscription) → AllShown rows xs → i < length xs → IsShown rows (get_or xs i d)
-shown_at rows [] i d shown h = absurd (omega (arith, h))
-shown_at rows (x ∷ xs) zero d (one, others) h = one
-shown_at rows (x ∷ xs) (suc i) d (one, others) h = shown_at rows xs i d others (omega (arith, h))
-
-pub is_found : (rows places : List ℕ) (xs : List Subscription) (front : ℕ) (packet : List ℕ) (slots found : ℕ) → SlotsApart xs → AllShown rows xs
-    → IsPlaced places xs → pid_of packet < 8192 → slots ≡ marks rows front (pid_of packet)
-    → ((slot : ℕ) → slot < 64 → bit_at slots slot ≡ 1 → bit_at found (get_or places slot 0 % 64) ≡ 1)
-    → (at : ℕ) → at < length xs → (d : Subscription) → selects front packet (get_or xs at d) ≡ true → bit_at found at ≡ 1
-is_found rows places xs front packet slots found apart shown placed pid is marked at within d selected =
-    let s = get_or xs at d in
-    let tests = and_parts (is_at front s.front) (has_pid s.pids (pid_of packet)) selected in
-    let bit = ap (λ w. bit_at w s.place.slot) is ∙ (shown_at rows xs at d shown within).marked front (pid_of packet) tests.0 pid tests.1 in
-    let few = at_most_64 xs apart in
-    let small : at % 64 ≡ at = omega (arith, few, within) in
-    subst (λ n. bit_at found n ≡ 1) (ap (λ n. n % 64) (placed at d within) ∙ small) (marked s.place.slot (slot_below xs apart at d within) bit)
-
--- one subscriber of a stream is changed
-pub unchanged_at : (stream : ℕ) (front : Option ℕ) (pids : Pids) (xs : List Subscription) (at : ℕ) (d : Subscription) → is_of stream (get_or xs at d) ≡ false
-    → xs ≡ set xs at (changed stream front pids (get_or xs at d))
-unchanged_at stream front pids xs at d other =
-    let s = get_or xs at d in
-    sym (ap (λ t. set xs at (cond t (record s { front = front; pids = pids }) s)) other ∙ set-get_or xs at d)
-
-pub shown_changed : (a b c : List ℕ) (xs : List Subscription) (at : ℕ) (d : Subscription) (stream : ℕ) (front : Option ℕ) (pids : Pids) (slot : ℕ)
-    → at < length xs
-    → SlotsApart xs → is_of stream (get_or xs at d) ≡ true → slot ≡ (get_or xs at d).place.slot → KeepsOthers slot a b → KeepsOthers slot b c
-    → IsFrontOrNone front → IsMarked c slot front pids → AllShown a xs → AllShown c (set xs at (changed stream front pids (get_or xs at d)))
-shown_changed a b c xs at d stream front pids slot within apart is same first second front_within marked shown =
-    let s = get_or xs at d in
-    let new : Subscription = record s { front = front; pids = pids } in
-    let keeps = subst (λ n. KeepsOthers n a c) same (keeps_both slot a b c first second) in
-    let one : IsShown c new = record { front = front_within; marked = subst (λ n. IsMarked c n front pids) same marked } in
-    subst (λ t. AllShown c (set xs at (cond t new s))) (sym is) (shown_set a c xs at d new within apart keeps one shown)
-
 -- a slot that someone has
 pub present_below : (slot : ℕ) (xs : List Subscription) → SlotsApart xs → list_any (has_slot slot) xs ≡ true → slot < 64
 present_below slot [] apart present = absurd (false≢true present)
@@ -174,11 +47,6 @@ present_below slot (x ∷ xs) (below, apart, rest) present = each (has_slot slot
     each : (t : Bool) → has_slot slot x ≡ t → (list_any (has_slot slot) xs ≡ true → slot < 64) → (t || list_any (has_slot slot) xs) ≡ true → slot < 64
     each true e later h = grind (arith, nat_tests, below, e)
     each false e later h = later h
-
--- the first words show which PIDs a slot selects
-abbrev pub MarkedTo : ℕ → List ℕ → ℕ → ℕ → Pids → Type 0
-MarkedTo n rows start slot pids =
-    (pid : ℕ) → pid / 64 < n → pid < 8192 → has_pid pids pid ≡ true → bit_at (get_or rows (start + pid / 64) 0) slot ≡ 1
 
 -- the first subscribers' places are noted
 abbrev pub NotedTo : ℕ → List ℕ → List Subscription → Type 0
@@ -266,28 +134,108 @@ nowhere_other slot places xs one placed within is other =
     let one_is : one ≡ get_or xs i d = is ∙ ap (λ j. get_or xs j one) at ∙ read_same xs i one d h in
     absurd (other (ap (λ s. s.place.slot) one_is ∙ same))))
 
+-- and whose place isn't marked by a slot isn't found
+abbrev pub OnlyFound : ℕ → List ℕ → ℕ → Type 0
+OnlyFound slots places found = (place : ℕ) → place < 64
+    → ((slot : ℕ) → slot < 64 → bit_at slots slot ≡ 1 → get_or places slot 0 % 64 ≢ place) → bit_at found place ≡ 0
+
+pub only_more : (n slots : ℕ) (places : List ℕ) (found : ℕ) → n < 64 → bit_at slots n ≡ 1 → OnlyFound slots places found
+    → OnlyFound slots places (bit_or found (1 * 2 ^ (get_or places n 0 % 64) % 2 ^ 64))
+only_more n slots places found below one so_far = λ place low none.
+    let own = get_or places n 0 % 64 in
+    let differs : place ≢ own = λ same. none n below one (sym same) in
+    bit_at_set_other w64 found own (omega arith) place differs ∙ so_far place low none
+
+-- so a subscriber is found exactly if it selects a packet
+pub is_found : (rows places : List ℕ) (xs : List Subscription) (front : ℕ) (packet : List ℕ) (slots found known : ℕ) → SlotsApart xs
+    → IsMarked rows known xs → IsPlaced places xs → pid_of packet < 8192 → slots ≡ marks rows front (pid_of packet)
+    → ((slot : ℕ) → slot < 64 → bit_at slots slot ≡ 1 → bit_at found (get_or places slot 0 % 64) ≡ 1)
+    → ((place : ℕ) → place < 64 → ((slot : ℕ) → slot < 64 → bit_at slots slot ≡ 1 → get_or places slot 0 % 64 ≢ place) → bit_at found place ≡ 0)
+    → (at : ℕ) → at < length xs → (d : Subscription) → bit_at found at ≡ bit (selects front packet (get_or xs at d))
+is_found rows places xs front packet slots found known apart marked placed pid is are only at within d =
+    each (selects front packet (get_or xs at d)) refl
+  where
+    few : at < 64
+    few = omega (arith, at_most_64 xs apart, within)
+
+    of_bit : (slot : ℕ) → slot < 64 → bit_at slots slot ≡ bit (holds_of (takes front (pid_of packet)) (of_slot slot xs))
+    of_bit slot below = ap (λ w. bit_at w slot) is ∙ marked.exact front (pid_of packet) slot pid below
+
+    each : (t : Bool) → selects front packet (get_or xs at d) ≡ t → bit_at found at ≡ bit t
+    each true e =
+        let slot = (get_or xs at d).place.slot in
+        let below = slot_below xs apart at d within in
+        let one : bit_at slots slot ≡ 1 =
+        of_bit slot below ∙ ap (λ o. bit (holds_of (takes front (pid_of packet)) o)) (at_slot xs at d apart within) ∙ ap bit e in
+        let small : at % 64 ≡ at = omega (arith, few) in
+        subst (λ n. bit_at found n ≡ 1) (ap (λ n. n % 64) (placed at d within) ∙ small) (are slot below one)
+    each false e = only at few (λ slot below one same.
+        let who = passing (takes front (pid_of packet)) (of_slot slot xs) (bit_true (holds_of (takes front (pid_of packet)) (of_slot slot xs))
+        (sym (of_bit slot below) ∙ one)) in
+        let place = found_at slot xs who.one who.is in
+        let here : (get_or xs place.at d).place.slot ≡ slot = ap (λ s. s.place.slot) (place.is d) ∙ place.has in
+        let noted : get_or places slot 0 ≡ place.at = ap (λ n. get_or places n 0) (sym here) ∙ placed place.at d place.within in
+        let together : place.at ≡ at = omega (arith, noted, same, at_most_64 xs apart, place.within) in
+        let selected : selects front packet (get_or xs at d) ≡ true =
+        ap (λ n. selects front packet (get_or xs n d)) (sym together) ∙ ap (λ s. selects front packet s) (place.is d) ∙ who.passes in
+        false≢true (sym e ∙ selected))
+
 -- where no slot is marked, no subscriber takes packets
-marks_none : (rows : List ℕ) (front pid : ℕ) → NoneMarked rows → marks rows front pid ≡ 0
-marks_none rows zero pid none = refl
-marks_none rows (suc front) pid none = each (cases_lt (128 * front + pid / 64) (length rows))
+marks_none : (rows : List ℕ) (front pid slot : ℕ) → slot < 64 → NoneMarked rows → bit_at (marks rows front pid) slot ≡ 0
+marks_none rows zero pid slot below none = bit_at-zero slot
+marks_none rows (suc front) pid slot below none = each (cases_lt (8192 * front + pid) (length rows))
   where
-    each : (128 * front + pid / 64 < length rows) ⊎ (length rows ≤ 128 * front + pid / 64) → get_or rows (128 * front + pid / 64) 0 ≡ 0
-    each (inl within) = none (128 * front + pid / 64) within
-    each (inr past) = get_or_past rows (128 * front + pid / 64) 0 past
+    each : (8192 * front + pid < length rows) ⊎ (length rows ≤ 8192 * front + pid) → bit_at (get_or rows (8192 * front + pid) 0) slot ≡ 0
+    each (inl within) = none (8192 * front + pid) slot within below
+    each (inr past) = ap (λ w. bit_at w slot) (get_or_past rows (8192 * front + pid) 0 past) ∙ bit_at-zero slot
 
-one_takes : (rows : List ℕ) (s : Subscription) (front pid : ℕ) → NoneMarked rows → IsShown rows s → pid < 8192 → takes front pid s ≡ false
-one_takes rows s front pid none shown below = each (is_at front s.front) (has_pid s.pids pid) refl refl
+pub none_takes : (rows : List ℕ) (known : ℕ) (xs : List Subscription) → SlotsApart xs → NoneMarked rows → IsMarked rows known xs → (front pid : ℕ)
+    → pid < 8192 → list_any (takes front pid) xs ≡ false
+none_takes rows known xs apart none marked front pid low = none_any (takes front pid) xs (λ i d within.
+    let s = get_or xs i d in
+    let below = slot_below xs apart i d within in
+    let shown = marked.exact front pid s.place.slot low below
+    ∙ ap (λ o. bit (holds_of (takes front pid) o)) (at_slot xs i d apart within) in
+    each (takes front pid s) (sym shown ∙ marks_none rows front pid s.place.slot below none))
   where
-    each : (at has : Bool) → is_at front s.front ≡ at → has_pid s.pids pid ≡ has → (at && has) ≡ false
-    each false has is_it has_it = refl
-    each true false is_it has_it = refl
-    each true true is_it has_it =
-        let one = shown.marked front pid is_it below has_it in
-        let zero_there = ap (λ word. bit_at word s.place.slot) (marks_none rows front pid none) ∙ bit_at-zero s.place.slot in
-        absurd (omega (arith, one, zero_there))
+    each : (t : Bool) → bit t ≡ 0 → t ≡ false
+    each true h = absurd (omega (arith, h))
+    each false h = refl
 
-pub none_takes : (rows : List ℕ) (xs : List Subscription) → NoneMarked rows → AllShown rows xs → (front pid : ℕ) → pid < 8192
-    → list_any (takes front pid) xs ≡ false
-none_takes rows [] none shown front pid below = refl
-none_takes rows (x ∷ xs) none (one, others) front pid below =
-    ap (λ t. t || list_any (takes front pid) xs) (one_takes rows x front pid none one below) ∙ none_takes rows xs none others front pid below
+-- and where none takes packets, no slot is marked
+pub none_marked : (rows : List ℕ) (known : ℕ) (xs : List Subscription) → length rows ≡ 131072 → IsMarked rows known xs
+    → ((front pid : ℕ) → pid < 8192 → list_any (takes front pid) xs ≡ false) → NoneMarked rows
+none_marked rows known xs count marked none = λ at slot within below.
+    let front = at / 8192 in
+    let pid = at % 8192 in
+    let low : pid < 8192 = omega arith in
+    let place : 8192 * front + pid ≡ at = omega arith in
+    ap (λ n. bit_at (get_or rows n 0) slot) (sym place) ∙ marked.exact (suc front) pid slot low below
+    ∙ each (suc front) pid slot low (of_slot slot xs) refl
+  where
+    each : (front pid slot : ℕ) → pid < 8192 → (o : Option Subscription) → of_slot slot xs ≡ o → bit (holds_of (takes front pid) o) ≡ 0
+    each front pid slot low None is = refl
+    each front pid slot low (Some s) is = test (takes front pid s) refl
+      where
+        test : (t : Bool) → takes front pid s ≡ t → bit t ≡ 0
+        test true e = absurd (false≢true (sym (none front pid low) ∙ found_any slot xs s (takes front pid) is e))
+        test false e = refl
+
+-- at first nobody is marked
+pub marked_nobody : (rows : List ℕ) (known : ℕ) → NoneMarked rows → IsMarked rows known []
+marked_nobody rows known none = record {
+  fronts = λ slot s e. absurd (cc);
+  exact = λ front pid slot low below. marks_none rows front pid slot below none;
+  alike = λ j k s t j_below k_below e. absurd (cc);
+}
+
+-- a word without a bit is 0
+pub word_none : (word : ℕ) → word < 2 ^ 64 → ((slot : ℕ) → slot < 64 → bit_at word slot ≡ 0) → word ≡ 0
+word_none word fits none = each (cases_eq word 0)
+  where
+    each : (word ≡ 0) ⊎ (word ≡ 0 → ⊥) → word ≡ 0
+    each (inl is) = is
+    each (inr some) =
+        let found = bit_at-trailing_zeros w64 word (omega (arith, some)) fits in
+        let zeros = none (trailing_zeros w64 word) found.0 in
+        absurd (omega (arith, zeros, found.1))

@@ -23,7 +23,7 @@ slots_differ : (a b : ℕ) → eqb a b ≡ false → eqb b a ≡ false
 slots_differ a b h = grind (arith, nat_tests)
 
 -- who has a slot is alone with it
-not_after : (slot : ℕ) (x : Subscription) (xs : List Subscription) → list_any (has_slot x.place.slot) xs ≡ false → has_slot slot x ≡ true
+pub not_after : (slot : ℕ) (x : Subscription) (xs : List Subscription) → list_any (has_slot x.place.slot) xs ≡ false → has_slot slot x ≡ true
     → list_any (has_slot slot) xs ≡ false
 not_after slot x xs apart h = subst (λ n. list_any (has_slot n) xs ≡ false) (slot_is slot x h) apart
 

@@ -1,12 +1,12 @@
 //! `Flow`; in contracts it is the list of its subscribers.
-ghost use Rattle.std.specs.Prelude.{◌≡◌, ◌≢◌, ℕ, ◌+◌, ◌<◌, ◌≤◌, ◌==◌, ◌&&◌, true, false, [], length, map, insert, All, vec_len, vec_capacity, is_some, IfOk, IfNone, IfSome, if◌then◌else◌};
+ghost use Rattle.std.specs.Prelude.{◌≡◌, ◌↔◌, IsTrue, None, ◌≢◌, ℕ, ◌+◌, ◌<◌, ◌≤◌, ◌==◌, ◌&&◌, true, false, [], length, map, insert, All, vec_len, vec_capacity, is_some, IfOk, IfNone, IfSome, if◌then◌else◌};
 ghost use Rattle.std.specs.List.{list_any, flat_map};
 ghost use Rattle.std.specs.Int.{bit_at};
 ghost use Rattle.circular_buffer.specs.Buffer.{buffer};
 ghost use Rattle.satip_rtp.specs.Sending.{SendsAll};
 ghost use Rattle.satip_rtp.specs.Packing.{packing};
 ghost use Rattle.satip_flow.specs.Subscription.{sender_state, pulled_bytes, WrotePulled, subscription, Subscription, ToAddress, ToQueue, has_slot, takes, given, given_datagrams, flushed, flush_datagrams, holds, readdressed, pulled, changed, meets_full, packing_of, queue_of, selects};
-ghost use Rattle.satip_flow.specs.Rows.{AllShown, IsPlaced};
+ghost use Rattle.satip_flow.specs.Rows.{AreSlotsOf, IsAlike, IsLike, IsMarked, IsPlaced, KeepsSlots, Shows, bit};
 ghost use Rattle.satip_flow.specs.Standing.{IsNowhere, StandsAt, HoldsOfAt, ChangesAt};
 ghost use Rattle.satip_flow.specs.Queues.{has_queue};
 ghost use Rattle.satip_flow.specs.Subscriptions.{put, comes_before, change_slot, without, feed_of_slot, packing_of_slot, queue_of_slot, holds_any, flushed_datagrams, is_overrun, IsFrontOrNone, SlotsApart};
@@ -15,7 +15,9 @@ use crate::bits::next_bit;
 use crate::place::{Place, SenderState};
 use crate::places::{note_places, places_of};
 use crate::sink::Queue;
-use crate::slot_masks::{are_unmarked, make_rows, mark, remark, slots_of, unmark};
+use crate::slot_masks::{
+    are_unmarked, group_of, has_same, make_rows, remark, slots_of, with_slots,
+};
 use crate::subscriber::Subscriber;
 use satip_base::limits::{DATAGRAM, DATAGRAMS, PULLED_BYTES, QUEUED, SESSIONS};
 use satip_base::{Address, Out, Want};
@@ -26,13 +28,15 @@ use std::alloc::Global;
 use std::marker::Model;
 
 /// The sessions that get packets, in order of their stream's number and then of their id's count.
-/// `make` allocates all its memory: for 64 subscribers, 64 queues of 4096 packets, and the words
-/// that mark the slots of subscribers by front end and PID.
+/// `make` allocates all its memory: for 64 subscribers, 64 queues of 4096 packets, and a word for
+/// each front end and PID, which marks the slots of the subscribers that select it.
 #[derive(Drop)]
 pub struct Flow {
     subscribers: Vec<Subscriber>,
     spare_queues: Vec<Queue>,
     rows: Vec<u64>,
+    // Of these slots, those of one stream have the same front end and PIDs.
+    alike: u64,
     places: [u8; SESSIONS],
 }
 
@@ -65,6 +69,7 @@ impl Flow {
             subscribers,
             spare_queues,
             rows,
+            alike: 0,
             places: [0; SESSIONS],
         })
     }
@@ -85,9 +90,12 @@ impl Flow {
         ensures added { self.new
             ≡ put (subscription place front pids.now (ToAddress to (packing ssrc first))) self.old }
     {
+        let is_alike = is_like(&self.subscribers, self.alike, place.stream, front, pids);
         let subscriber = Subscriber::packed(place, front, pids, to, Packer::new(ssrc, first));
         insert_ordered(&mut self.subscribers, subscriber);
-        mark(&mut self.rows, place.slot, front, pids);
+        let own = slot_bit(place.slot, true);
+        remark(&mut self.rows, own, None, pids, front, pids);
+        self.alike = with_slots(self.alike, own, is_alike);
         note_places(&mut self.places, &self.subscribers);
     }
 
@@ -98,12 +106,15 @@ impl Flow {
         requires front { IsFrontOrNone front }
         ensures added { self.new ≡ put (subscription place front pids.now (ToQueue [])) self.old }
     {
+        let is_alike = is_like(&self.subscribers, self.alike, place.stream, front, pids);
         let queue = self.spare_queues.pop().unwrap();
         insert_ordered(
             &mut self.subscribers,
             Subscriber::queued(place, front, pids, queue),
         );
-        mark(&mut self.rows, place.slot, front, pids);
+        let own = slot_bit(place.slot, true);
+        remark(&mut self.rows, own, None, pids, front, pids);
+        self.alike = with_slots(self.alike, own, is_alike);
         note_places(&mut self.places, &self.subscribers);
     }
 
@@ -113,7 +124,15 @@ impl Flow {
         requires front { IsFrontOrNone front }
         ensures changed { self.new ≡ map (changed stream front pids.now) self.old }
     {
-        change_all(&mut self.subscribers, &mut self.rows, stream, front, pids);
+        self.alike |= remark_all(
+            &mut self.rows,
+            &self.subscribers,
+            self.alike,
+            stream,
+            front,
+            pids,
+        );
+        change_all(&mut self.subscribers, stream, front, pids);
     }
 
     /// Sets the address of the datagrams of the slot's subscriber. Returns `false` if the slot has
@@ -198,17 +217,17 @@ impl Flow {
         let Some(at) = place_of(&self.subscribers, &self.places, slot) else {
             return false;
         };
-        unmark(&mut self.rows, slot, self.subscribers[at].front());
+        unmark(&mut self.rows, slot_bit(slot, true), &self.subscribers[at]);
         give_back(&mut self.spare_queues, self.subscribers.remove(at));
         note_places(&mut self.places, &self.subscribers);
         true
     }
 
-    /// Returns whether no slot is marked for any front end and PID. If so, no subscriber selects
-    /// any packet. After all subscribers have ended it is true, but no clause says so.
+    /// Returns whether no slot is marked for any front end and PID: no subscriber selects any
+    /// packet.
     pub fn is_unmarked(&self) -> bool
-        ensures unselected { result ≡ true → (front pid : ℕ) → pid < 8192
-            → list_any (takes front pid) self.now ≡ false }
+        ensures unselected { IsTrue result ↔ ((front pid : ℕ) → pid < 8192
+            → list_any (takes front pid) self.now ≡ false) }
     {
         are_unmarked(&self.rows)
     }
@@ -288,52 +307,116 @@ fn place_of(subscribers: &[Subscriber], places: &[u8], slot: u16) -> Option<usiz
     Some(at)
 }
 
-fn change_all(
-    subscribers: &mut Vec<Subscriber>,
-    rows: &mut Vec<u64>,
+// Returns whether this front end and these PIDs are those of the stream's subscribers that are
+// known to be alike.
+fn is_like(
+    subscribers: &[Subscriber],
+    alike: u64,
     stream: u16,
     front: Option<u16>,
     pids: &PidSet,
-)
-    requires apart { SlotsApart subscribers.old.items }
-    requires shown { AllShown rows.old.items subscribers.old.items }
-    requires count { vec_len rows.old ≡ 2048 }
+) -> bool
+    requires apart { SlotsApart subscribers.now }
+    requires alike { IsAlike alike subscribers.now }
+    ensures like { result ≡ true → IsLike alike subscribers.now stream front pids.now }
+{
+    for subscriber in subscribers {
+        let place = subscriber.place();
+        if place.stream == stream && (alike >> place.slot) % 2 == 1 {
+            return subscriber.front() == front && has_same(subscriber.pids(), pids);
+        }
+    }
+    true
+}
+
+// Clears the marks of a subscriber's slot.
+fn unmark(rows: &mut [u64], slots: u64, subscriber: &Subscriber)
+    requires count { length rows.old ≡ 131072 }
+    requires front { IsFrontOrNone subscriber.now.front }
+    requires shown { Shows rows.old slots subscriber.now.front subscriber.now.pids }
+    ensures shown { Shows rows.new slots None subscriber.now.pids }
+    ensures others { KeepsSlots slots rows.old rows.new }
+    ensures count { length rows.new ≡ 131072 }
+{
+    let pids = subscriber.pids();
+    remark(rows, slots, subscriber.front(), pids, None, pids);
+}
+
+// Marks the slots of a stream's subscribers for another front end and other PIDs, and returns
+// them. Those that are known to be alike are written together.
+fn remark_all(
+    rows: &mut [u64],
+    subscribers: &[Subscriber],
+    alike: u64,
+    stream: u16,
+    front: Option<u16>,
+    pids: &PidSet,
+) -> u64
+    requires count { length rows.old ≡ 131072 }
+    requires apart { SlotsApart subscribers.now }
+    requires marked { IsMarked rows.old alike subscribers.now }
     requires front { IsFrontOrNone front }
+    ensures slots { AreSlotsOf result stream subscribers.now }
+    ensures shown { Shows rows.new result front pids.now }
+    ensures others { KeepsSlots result rows.old rows.new }
+    ensures count { length rows.new ≡ 131072 }
+{
+    let slots = slots_of_stream(subscribers, stream);
+    let mut left = slots;
+    for subscriber in subscribers {
+        let slot = subscriber.place().slot;
+        if (left >> slot) % 2 == 1 {
+            let same = group_of(left, alike, slot);
+            remark(
+                rows,
+                same,
+                subscriber.front(),
+                subscriber.pids(),
+                front,
+                pids,
+            );
+            left &= !same;
+        }
+    }
+    slots
+}
+
+// Returns the slots of a stream's subscribers.
+fn slots_of_stream(subscribers: &[Subscriber], stream: u16) -> u64
+    requires apart { SlotsApart subscribers.now }
+    ensures slots { AreSlotsOf result stream subscribers.now }
+{
+    let mut slots = 0;
+    for subscriber in subscribers {
+        let place = subscriber.place();
+        slots |= slot_bit(place.slot, place.stream == stream);
+    }
+    slots
+}
+
+fn change_all(subscribers: &mut Vec<Subscriber>, stream: u16, front: Option<u16>, pids: &PidSet)
     ensures changed { subscribers.new.items
         ≡ map (changed stream front pids.now) subscribers.old.items }
     ensures capacity { vec_capacity subscribers.new ≡ vec_capacity subscribers.old }
-    ensures shown { AllShown rows.new.items subscribers.new.items }
-    ensures count { vec_len rows.new ≡ 2048 }
 {
     for at in 0..subscribers.len() {
-        change_at(subscribers, rows, at, stream, front, pids);
+        change_at(subscribers, at, stream, front, pids);
     }
 }
 
 fn change_at(
     subscribers: &mut Vec<Subscriber>,
-    rows: &mut Vec<u64>,
     at: usize,
     stream: u16,
     front: Option<u16>,
     pids: &PidSet,
 )
     requires within { at < vec_len subscribers.old }
-    requires apart { SlotsApart subscribers.old.items }
-    requires shown { AllShown rows.old.items subscribers.old.items }
-    requires count { vec_len rows.old ≡ 2048 }
-    requires front { IsFrontOrNone front }
     ensures changed { ChangesAt subscribers.old.items at
         (changed stream front pids.now) subscribers.new.items }
     ensures capacity { vec_capacity subscribers.new ≡ vec_capacity subscribers.old }
-    ensures shown { AllShown rows.new.items subscribers.new.items }
-    ensures count { vec_len rows.new ≡ 2048 }
 {
-    let place = subscribers[at].place();
-    if place.stream == stream {
-        remark(rows, &subscribers[at], front, pids);
-        subscribers[at].change(stream, front, pids);
-    }
+    subscribers[at].change(stream, front, pids);
 }
 
 fn readdress_at(subscribers: &mut Vec<Subscriber>, at: usize, to: Address) -> bool
@@ -373,8 +456,8 @@ fn pull_at(subscribers: &mut Vec<Subscriber>, at: usize, out: &mut Out) -> Optio
     subscribers[at].pull(out)
 }
 
-// Gives a packet to each subscriber that selects it; all of these are at `places`. Returns a bit
-// for each slot whose full queue the packet met.
+// Gives a packet to each subscriber that selects it; these are at `places`. Returns a bit for each
+// slot whose full queue the packet met.
 fn give_all(
     subscribers: &mut Vec<Subscriber>,
     places: u64,
@@ -385,8 +468,8 @@ fn give_all(
 ) -> u64
     requires apart { SlotsApart subscribers.old.items }
     requires selected { (at : ℕ) → at < length subscribers.old.items
-        → HoldsOfAt subscribers.old.items at (λ s. selects front packet.now s ≡ true
-        → bit_at places at ≡ 1) }
+        → HoldsOfAt subscribers.old.items at
+        (λ s. bit_at places at ≡ bit (selects front packet.now s)) }
     requires bytes { DATAGRAMS ≤ out.old.datagram_spare }
     requires count { 64 ≤ out.old.count_spare }
     ensures given { subscribers.new.items ≡ map (given front packet.now) subscribers.old.items }
@@ -408,7 +491,7 @@ fn give_all(
     overrun
 }
 
-// Gives a packet to one subscriber. Returns the bit of its slot if the packet met its full queue.
+// Gives a packet to one subscriber, which selects it. Returns the bit of its slot if the packet met its full queue.
 fn give_at(
     subscribers: &mut Vec<Subscriber>,
     at: usize,
@@ -419,6 +502,8 @@ fn give_at(
 ) -> u64
     requires within { at < vec_len subscribers.old }
     requires slot { HoldsOfAt subscribers.old.items at (λ s. s.place.slot < 64) }
+    requires selected { HoldsOfAt subscribers.old.items at
+        (λ s. selects front packet.now s ≡ true) }
     requires bytes { DATAGRAM ≤ out.old.datagram_spare }
     requires count { out.old.count_spare ≢ 0 }
     ensures changed { ChangesAt subscribers.old.items at

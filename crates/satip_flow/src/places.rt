@@ -1,5 +1,5 @@
 //! The place of each slot's subscriber in the list.
-ghost use Rattle.std.specs.Prelude.{◌≡◌, ◌%◌, ◌<◌, ◌≤◌, ℕ, length, slice_index_or};
+ghost use Rattle.std.specs.Prelude.{◌≡◌, ◌≢◌, ◌%◌, ◌<◌, ◌≤◌, ℕ, length, slice_index_or};
 ghost use Rattle.std.specs.Int.{bit_at};
 ghost use Rattle.satip_flow.specs.Subscriptions.{SlotsApart};
 ghost use Rattle.satip_flow.specs.Rows.{IsPlaced};
@@ -24,6 +24,8 @@ pub(crate) fn places_of(slots: u64, places: &[u8]) -> u64
     requires count { length places.now ≡ 64 }
     ensures places { (slot : ℕ) → slot < 64 → bit_at slots slot ≡ 1
         → bit_at result (slice_index_or places.now slot 0 % 64) ≡ 1 }
+    ensures only { (place : ℕ) → place < 64 → ((slot : ℕ) → slot < 64 → bit_at slots slot ≡ 1
+        → slice_index_or places.now slot 0 % 64 ≢ place) → bit_at result place ≡ 0 }
 {
     let mut marked = 0;
     let mut slot = next_bit(slots, 0);

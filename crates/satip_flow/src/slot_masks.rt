@@ -1,73 +1,45 @@
-//! The slots of subscribers that may select a packet: a word for each front end and 64 PIDs, with a
-//! bit for each slot.
-ghost use Rattle.std.specs.Prelude.{◌≡◌, ◌≢◌, ◌+◌, ◌*◌, ◌/◌, ◌<◌, ◌≤◌, ◌↔◌, ℕ, [], true, vec_len, length, slice_index_or, if◌then◌else◌, IfOk, IsTrue};
+//! The slots of subscribers that select a packet: a word for each front end and PID, with a bit for
+//! each slot.
+ghost use Rattle.std.specs.Prelude.{◌≡◌, ◌+◌, ◌<◌, ◌≤◌, ◌↔◌, ℕ, true, vec_len, length, IfOk, IsTrue, if◌then◌else◌};
 ghost use Rattle.std.specs.Int.{bit_at};
 ghost use Rattle.satip_pids.specs.Pids.{has_pid};
+ghost use Rattle.satip_flow.specs.Subscription.{is_at};
 ghost use Rattle.satip_flow.specs.Subscriptions.{IsFrontOrNone};
-ghost use Rattle.satip_flow.specs.Rows.{marks, IsMarked, IsShown, KeepsOthers, NoneMarked};
+ghost use Rattle.satip_flow.specs.Rows.{bit, marks, rewritten, with_slots, IsGroup, IsRewritten, KeepsSlots, NoneMarked, SamePids, Shows};
 
-use crate::bits::with_bit;
-use crate::subscriber::Subscriber;
+use crate::bits::BITS;
 use satip_base::Want;
 use satip_base::limits::FRONTS;
 use satip_pids::PidSet;
 use std::alloc::Global;
 
-/// The number of words of a front end.
-const WORDS: usize = 128;
+/// The number of words of a front end: one for each PID.
+const PIDS: usize = 8192;
 
-/// The number of PIDs that share a word.
-const PIDS: usize = 64;
+/// The number of words of a set of PIDs, which has a bit for each.
+const WORDS: usize = 128;
 
 /// Returns words in which no slot is marked. `Want` is out of memory.
 pub(crate) fn make_rows(alloc: Global) -> Result<Vec<u64>, Want>
-    ensures count { IfOk result (λ rows. vec_len rows ≡ 2048) }
+    ensures count { IfOk result (λ rows. vec_len rows ≡ 131072) }
+    ensures unmarked { IfOk result (λ rows. NoneMarked rows.items) }
 {
-    let mut rows = Vec::new(alloc);
-    match rows.resize(FRONTS * WORDS, 0) {
-        Ok(()) => Ok(rows),
+    match vec![in alloc; 0; FRONTS * PIDS] {
+        Ok(rows) => Ok(rows),
         Err(_) => Err(Want),
     }
 }
 
 /// Returns the marked slots of a front end and a PID; none if there is no such front end.
 pub(crate) fn slots_of(rows: &[u64], front: u16, pid: u16) -> u64
-    requires count { length rows.now ≡ 2048 }
+    requires count { length rows.now ≡ 131072 }
     requires pid { pid < 8192 }
     ensures slots { result ≡ marks rows.now front pid }
 {
     if front == 0 || front as usize > FRONTS {
         return 0;
     }
-    rows[WORDS * (front as usize - 1) + pid as usize / PIDS]
-}
-
-/// Marks a slot in each word of a front end that has a selected PID. It clears the other words of
-/// the front end too, but no clause says so.
-pub(crate) fn mark(rows: &mut Vec<u64>, slot: u16, front: Option<u16>, pids: &PidSet)
-    requires count { vec_len rows.old ≡ 2048 }
-    requires slot { slot < 64 }
-    requires front { IsFrontOrNone front }
-    ensures marked { IsMarked rows.new.items slot front pids.now }
-    ensures others { KeepsOthers slot rows.old.items rows.new.items }
-    ensures count { vec_len rows.new ≡ 2048 }
-{
-    if let Some(front) = front {
-        mark_front(rows, WORDS * (front as usize - 1), slot, pids);
-    }
-}
-
-/// Clears the marks of a slot at a front end. Clauses say only that other slots keep theirs.
-pub(crate) fn unmark(rows: &mut Vec<u64>, slot: u16, front: Option<u16>)
-    requires count { vec_len rows.old ≡ 2048 }
-    requires slot { slot < 64 }
-    requires front { IsFrontOrNone front }
-    ensures others { KeepsOthers slot rows.old.items rows.new.items }
-    ensures count { vec_len rows.new ≡ 2048 }
-{
-    if let Some(front) = front {
-        unmark_front(rows, WORDS * (front as usize - 1), slot);
-    }
+    rows[PIDS * (front as usize - 1) + pid as usize]
 }
 
 /// Returns whether no slot is marked anywhere.
@@ -82,95 +54,115 @@ pub(crate) fn are_unmarked(rows: &[u64]) -> bool
     true
 }
 
-/// Marks the slot of a subscriber for another front end or other PIDs. The slot is marked for the
-/// present ones before. If the front end is the same, it writes only the words whose PIDs differ.
+/// Returns the slots that a change writes together with `slot`: of those `left`, all that are known
+/// to be alike if it is, else it alone.
+pub(crate) fn group_of(left: u64, alike: u64, slot: u16) -> u64
+    requires slot { slot < 64 }
+    requires left { bit_at left slot ≡ 1 }
+    ensures group { IsGroup result left alike slot }
+{
+    if (alike >> slot) % 2 == 1 {
+        left & alike
+    } else {
+        1 << slot
+    }
+}
+
+/// Marks these slots for another front end or other PIDs. All of them are marked for `own` and
+/// `old` before. It writes only the words that differ.
 pub(crate) fn remark(
-    rows: &mut Vec<u64>,
-    subscriber: &Subscriber,
+    rows: &mut [u64],
+    slots: u64,
+    own: Option<u16>,
+    old: &PidSet,
     front: Option<u16>,
     pids: &PidSet,
 )
-    requires count { vec_len rows.old ≡ 2048 }
-    requires slot { subscriber.now.place.slot < 64 }
-    requires shown { IsShown rows.old.items subscriber.now }
+    requires count { length rows.old ≡ 131072 }
+    requires own { IsFrontOrNone own }
     requires front { IsFrontOrNone front }
-    ensures marked { IsMarked rows.new.items subscriber.now.place.slot front pids.now }
-    ensures others { KeepsOthers subscriber.now.place.slot rows.old.items rows.new.items }
-    ensures count { vec_len rows.new ≡ 2048 }
+    requires shown { Shows rows.old slots own old.now }
+    ensures shown { Shows rows.new slots front pids.now }
+    ensures others { KeepsSlots slots rows.old rows.new }
+    ensures count { length rows.new ≡ 131072 }
 {
-    let slot = subscriber.place().slot;
-    let own = subscriber.front();
-    if own != front {
-        unmark(rows, slot, own);
-        mark(rows, slot, front, pids);
+    if own == front {
+        remark_at(rows, slots, front, old, pids);
         return;
     }
+    let none = PidSet::new();
+    remark_at(rows, slots, own, old, &none);
+    remark_at(rows, slots, front, &none, pids);
+}
+
+// Writes the words of a front end whose PIDs are in one set and not in the other.
+fn remark_at(rows: &mut [u64], slots: u64, front: Option<u16>, old: &PidSet, pids: &PidSet)
+    requires count { length rows.old ≡ 131072 }
+    requires front { IsFrontOrNone front }
+    ensures written { (at pid : ℕ) → pid < 8192 → marks rows.new at pid
+        ≡ (if is_at at front
+        then rewritten slots (bit (has_pid old.now pid)) (bit (has_pid pids.now pid))
+        (marks rows.old at pid) else marks rows.old at pid) }
+    ensures count { length rows.new ≡ 131072 }
+{
     if let Some(front) = front {
-        let start = WORDS * (front as usize - 1);
-        remark_front(rows, start, slot, subscriber.pids(), pids);
+        remark_front(rows, PIDS * (front as usize - 1), slots, old, pids);
     }
 }
 
-// Marks a slot in the words of the front end at `start`, for `pids` instead of `old`.
-fn remark_front(rows: &mut Vec<u64>, start: usize, slot: u16, old: &PidSet, pids: &PidSet)
-    requires within { start + 128 ≤ vec_len rows.old }
-    requires slot { slot < 64 }
-    requires marked { (pid : ℕ) → pid < 8192 → has_pid old.now pid ≡ true
-        → bit_at (slice_index_or rows.old.items (start + pid / 64) 0) slot ≡ 1 }
-    ensures marked { (pid : ℕ) → pid < 8192 → has_pid pids.now pid ≡ true
-        → bit_at (slice_index_or rows.new.items (start + pid / 64) 0) slot ≡ 1 }
-    ensures others { KeepsOthers slot rows.old.items rows.new.items }
-    ensures count { vec_len rows.new ≡ vec_len rows.old }
+// The same for the words from `start` on.
+fn remark_front(rows: &mut [u64], start: usize, slots: u64, old: &PidSet, pids: &PidSet)
+    requires within { start + 8192 ≤ length rows.old }
+    ensures written { IsRewritten 8192 start slots
+        (λ pid. bit (has_pid old.now pid)) (λ pid. bit (has_pid pids.now pid)) rows.old rows.new }
+    ensures count { length rows.new ≡ length rows.old }
 {
     for at in 0..WORDS {
-        remark_word(rows, start, at, slot, old, pids);
+        remark_words(rows, start + BITS * at, slots, old.word(at), pids.word(at));
     }
 }
 
-// Marks a slot in one of these words. It writes nothing if both sets have the same of the word's
-// PIDs.
-fn remark_word(rows: &mut Vec<u64>, start: usize, at: usize, slot: u16, old: &PidSet, pids: &PidSet)
-    requires within { start + 128 ≤ vec_len rows.old }
-    requires word { at < 128 }
-    requires slot { slot < 64 }
-    ensures marked { (pid : ℕ) → pid / 64 ≡ at → (has_pid old.now pid ≡ true
-        → bit_at (slice_index_or rows.old.items (start + at) 0) slot ≡ 1)
-        → has_pid pids.now pid ≡ true
-        → bit_at (slice_index_or rows.new.items (start + at) 0) slot ≡ 1 }
-    ensures elsewhere { (place : ℕ) → place ≢ start + at
-        → slice_index_or rows.new.items place 0 ≡ slice_index_or rows.old.items place 0 }
-    ensures others { KeepsOthers slot rows.old.items rows.new.items }
-    ensures count { vec_len rows.new ≡ vec_len rows.old }
+// The same for 64 words, by the bits of two words.
+fn remark_words(rows: &mut [u64], start: usize, slots: u64, old: u64, new: u64)
+    requires within { start + 64 ≤ length rows.old }
+    ensures written { IsRewritten 64 start slots
+        (λ i. bit_at old i) (λ i. bit_at new i) rows.old rows.new }
+    ensures count { length rows.new ≡ length rows.old }
 {
-    let word = pids.word(at);
-    if word == old.word(at) {
+    if old == new {
         return;
     }
-    rows[start + at] = with_bit(rows[start + at], slot, word != 0);
-}
-
-// Marks a slot in the words of the front end at `start`.
-fn mark_front(rows: &mut Vec<u64>, start: usize, slot: u16, pids: &PidSet)
-    requires within { start + 128 ≤ vec_len rows.old }
-    requires slot { slot < 64 }
-    ensures marked { (pid : ℕ) → pid < 8192 → has_pid pids.now pid ≡ true
-        → bit_at (slice_index_or rows.new.items (start + pid / 64) 0) slot ≡ 1 }
-    ensures others { KeepsOthers slot rows.old.items rows.new.items }
-    ensures count { vec_len rows.new ≡ vec_len rows.old }
-{
-    for at in 0..WORDS {
-        let is_set = pids.word(at) != 0;
-        rows[start + at] = with_bit(rows[start + at], slot, is_set);
+    for at in 0..BITS {
+        remark_word(rows, start + at, slots, (old >> at) % 2, (new >> at) % 2);
     }
 }
 
-fn unmark_front(rows: &mut Vec<u64>, start: usize, slot: u16)
-    requires within { start + 128 ≤ vec_len rows.old }
-    requires slot { slot < 64 }
-    ensures others { KeepsOthers slot rows.old.items rows.new.items }
-    ensures count { vec_len rows.new ≡ vec_len rows.old }
+// The same for one word.
+fn remark_word(rows: &mut [u64], at: usize, slots: u64, was: u64, is: u64)
+    requires within { at < length rows.old }
+    ensures written { IsRewritten 1 at slots (λ i. was) (λ i. is) rows.old rows.new }
+    ensures count { length rows.new ≡ length rows.old }
+{
+    if was != is {
+        rows[at] = with_slots(rows[at], slots, is == 1);
+    }
+}
+
+/// Returns whether two sets select the same PIDs.
+pub(crate) fn has_same(a: &PidSet, b: &PidSet) -> bool
+    ensures same { result ≡ true → SamePids a.now b.now }
 {
     for at in 0..WORDS {
-        rows[start + at] = with_bit(rows[start + at], slot, false);
+        if a.word(at) != b.word(at) {
+            return false;
+        }
     }
+    true
+}
+
+/// Returns the word with the bits of these slots set or cleared.
+pub(crate) fn with_slots(word: u64, slots: u64, is_set: bool) -> u64
+    ensures written { result ≡ with_slots slots is_set word }
+{
+    if is_set { word | slots } else { word & !slots }
 }

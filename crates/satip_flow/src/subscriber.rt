@@ -1,5 +1,5 @@
 //! One subscriber; in contracts it is a `Subscription`.
-ghost use Rattle.std.specs.Prelude.{◌≡◌, ◌≢◌, ◌+◌, ◌≤◌, [], is_some, option_map};
+ghost use Rattle.std.specs.Prelude.{true, ◌≡◌, ◌≢◌, ◌+◌, ◌≤◌, [], is_some, option_map};
 ghost use Rattle.circular_buffer.specs.Buffer.{buffer};
 ghost use Rattle.satip_rtp.specs.Sending.{SendsAll};
 ghost use Rattle.satip_flow.specs.Subscription.{sender_state, pulled_bytes, WrotePulled, subscription, ToAddress, ToQueue, selects, given, given_datagrams, overruns, flushed, flush_datagrams, holds, readdressed, pulled, changed, packing_of, queue_of};
@@ -90,19 +90,10 @@ impl Subscriber {
         &self.pids
     }
 
-    /// Returns whether this subscriber selects a packet of a front end.
-    pub(crate) fn selects(&self, front: u16, packet: &Packet) -> bool
-        ensures selected { result ≡ selects front packet.now self.now }
-    {
-        match self.front {
-            Some(own) => own == front && self.pids.has(packet.pid()),
-            None => false,
-        }
-    }
-
-    /// Gives a packet of a front end to the subscriber, if it selects the packet. Returns `true` if
-    /// the packet met a full queue.
+    /// Gives a packet of a front end to the subscriber, which selects it. Returns `true` if the
+    /// packet met a full queue.
     pub(crate) fn give(&mut self, front: u16, packet: &Packet, clock: u64, out: &mut Out) -> bool
+        requires selected { selects front packet.now self.old ≡ true }
         requires bytes { DATAGRAM ≤ out.old.datagram_spare }
         requires count { out.old.count_spare ≢ 0 }
         ensures given { self.new ≡ given front packet.now self.old }
@@ -111,9 +102,6 @@ impl Subscriber {
         ensures bytes_spare { out.old.datagram_spare ≤ out.new.datagram_spare + DATAGRAM }
         ensures count_spare { out.old.count_spare ≤ out.new.count_spare + 1 }
     {
-        if !self.selects(front, packet) {
-            return false;
-        }
         feed(&mut self.sink, packet, clock, out)
     }
 

@@ -1,19 +1,74 @@
 -- What a framer may answer from what stands at the front of its bytes.
-use Rattle.std.proofs.Common.{◌≡◌, ℕ, ◌+◌, ◌-◌, ◌<◌, ◌≤◌, List, [], ◌∷◌, ◌++◌, length, take, drop, sym, ap, ◌∙◌, subst, inl, inr, arith, length-drop, drop-drop}
+use Rattle.std.proofs.Common.{◌≡◌, ℕ, ◌+◌, ◌-◌, ◌<◌, ◌≤◌, List, [], ◌∷◌, ◌++◌, length, take, drop, min, sym, ap, ◌∙◌, subst, inl, inr, arith, length-append, length-drop, drop-drop, append_assoc, append-nil}
 use Rattle.httparse.specs.declared.spans.HeaderSpan.{HeaderSpan}
 use Rattle.satip_frame.specs.declared.looking.Found.{Found}
 use Rattle.satip_frame.specs.declared.looking.Front.{Front}
+use Rattle.satip_frame.specs.declared.looking.Seen.{Seen}
 use Rattle.satip_frame.specs.declared.looking.Front.TheVariants.{Whole, More, Bad, TooLong}
 use Rattle.satip_frame.specs.declared.framing.Break.{Break}
 use Rattle.satip_frame.specs.declared.framing.Break.TheVariants.{Bad as cause_bad, TooLong as cause_too_long}
 use Rattle.satip_frame.specs.declared.framing.Step.{Step}
 use Rattle.satip_frame.specs.Held.{Held, step_of, Tells}
 use Rattle.satip_frame.specs.Said.{Said}
-use Rattle.satip_frame.specs.Stream.{Tail, Unfinished, Broken, skip_newlines, Ends, Begins, Messages, Leads}
-use Rattle.satip_frame.specs.Fronts.{IsFront}
+use Rattle.satip_frame.specs.Head.{HasNoEmptyLine, IsHeadEnd, IsGoodHead}
+use Rattle.satip_frame.specs.Stream.{Tail, Unfinished, Broken, skip_newlines, HasHead, Ends, Begins, Messages, Leads}
+use Rattle.satip_frame.specs.Fronts.{IsSeen, IsFront}
 use Rattle.satip_frame.specs.Inner.{IsPlace, said_in}
 use Rattle.satip_frame.specs.Places.{said_at}
-use Rattle.satip_frame.proofs.StreamLemmas.{ends_from_rest, rest_ends, ends_unique, begins_and_ends, leads_more, leads_skipped, skip_newlines_again, skip_shorter, leads-append}
+use Rattle.satip_frame.proofs.ReadingLemmas.{no_line_first}
+use Rattle.satip_frame.proofs.StreamLemmas.{no_line_more, has_head_more, ends_from_rest, rest_ends, ends_unique, begins_and_ends, leads_more, leads_skipped, skip_newlines_again, skip_shorter, leads-append}
+
+-- ---- what was seen
+
+pub nothing_seen : (text : List ℕ) → IsSeen text (record { looked = 0; needed = 0 })
+nothing_seen text = record {
+  within = omega arith;
+  none = no_line_first text;
+  waits = λ more short. absurd (omega arith);
+}
+
+pub seen_more : (text more : List ℕ) (seen : Seen) → IsSeen text seen → IsSeen (text ++ more) seen
+seen_more text more seen known = record {
+  within = omega (arith, known.within, length-append text more);
+  none = no_line_more text more seen.looked known.within known.none;
+  waits = λ others short.
+      let same : (text ++ more) ++ others ≡ text ++ (more ++ others) = append_assoc text more others in
+      subst (λ t. Ends t Unfinished) (sym same) (known.waits (more ++ others) (subst (λ t. length t < seen.needed) same short));
+}
+
+-- fewer bytes than are needed
+pub still_waits : (text : List ℕ) (seen : Seen) → IsSeen text seen → length text < seen.needed → Ends text Unfinished × IsSeen text seen
+still_waits text seen known short =
+    let same : text ++ [] ≡ text = append-nil text in (
+      subst (λ t. Ends t Unfinished) same (known.waits [] (subst (λ t. length t < seen.needed) (sym same) short)),
+      known,
+    )
+
+-- a head that is looked for in the whole text
+pub head_open : (text : List ℕ) → length text < 8192 → HasNoEmptyLine (min 8192 (length text)) text
+    → Ends text Unfinished × IsSeen text (record { looked = length text; needed = 0 })
+head_open text short none =
+    let all : min 8192 (length text) ≡ length text = omega (arith, short) in
+    let open_head = subst (λ n. HasNoEmptyLine n text) all none in (
+      inl (short, open_head),
+      record { within = omega arith; none = open_head; waits = λ more below. absurd (omega arith) },
+    )
+
+-- a head whose body isn't whole
+pub body_open : (text : List ℕ) (seen : Seen) (head : ℕ) (m : Said) (body : ℕ) → IsSeen text seen → IsHeadEnd text head
+    → IsGoodHead (take head text) m body → body ≤ 4096 → length text < head + body
+    → Ends text Unfinished × IsSeen text (record { looked = seen.looked; needed = head + body })
+body_open text seen head m body known end good fits short =
+    let has : HasHead text head m body = record { end = end; good = good } in (
+      inr (head, m, body, has, fits, short),
+      record {
+        within = known.within;
+        none = known.none;
+        waits = λ more below. inr (head, m, body, has_head_more more has, fits, below);
+      },
+    )
+
+-- ---- what stands at the front
 
 -- behind the line ends at start the bytes go on at next, where this stands
 pub record Stands (items : List ℕ) (start next : ℕ) (headers : List HeaderSpan) (front : Front) : Type 0 where
@@ -72,8 +127,8 @@ pub record StandsAtEnd (items : List ℕ) (start next : ℕ) (tail : Tail) : Typ
   pub ends : Ends (drop next items) tail
 
 module _ {items : List ℕ} {start next : ℕ} {headers : List HeaderSpan} where
-  pub at_more : Stands items start next headers More → StandsAtEnd items start next Unfinished
-  at_more here = record { skipped = here.skipped; ends = here.is_front }
+  pub at_more : {seen : Seen} → Stands items start next headers (More seen) → StandsAtEnd items start next Unfinished
+  at_more {seen} here = record { skipped = here.skipped; ends = here.is_front.0 }
 
   pub at_bad : Stands items start next headers Bad → StandsAtEnd items start next (Broken cause_bad)
   at_bad here = record { skipped = here.skipped; ends = here.is_front }

@@ -1,6 +1,7 @@
 pub mod HeaderLemmas
 pub mod LineLemmas
 pub mod HeadLemmas
+pub mod HeadEndLemmas
 pub mod StreamLemmas
 pub mod FramerLemmas
 pub mod ReadingLemmas

@@ -140,7 +140,7 @@ leads_skipped text (m ∷ ms) rest leads = (leads.0, leads.1, leads_skipped lead
 take_more : (text more : List ℕ) (k n : ℕ) → k ≤ n → n ≤ length text → take k (text ++ more) ≡ take k text
 take_more text more k n below inside = take-append-le k text more (omega arith)
 
-no_line_more : (text more : List ℕ) (n : ℕ) → n ≤ length text → HasNoEmptyLine n text → HasNoEmptyLine n (text ++ more)
+pub no_line_more : (text more : List ℕ) (n : ℕ) → n ≤ length text → HasNoEmptyLine n text → HasNoEmptyLine n (text ++ more)
 no_line_more text more n inside none = λ k below ends.
     none k below (subst (λ t. IsTrue (ends_in_empty_line t)) (take_more text more k n below inside) ends)
 
@@ -153,7 +153,7 @@ head_end_more {text} {n} more end = record {
       end.first k below (subst (λ t. IsTrue (ends_in_empty_line t)) (take_more text more k n (omega arith) end.in_range) ends);
 }
 
-has_head_more : {text : List ℕ} {h : ℕ} {m : Said} {b : ℕ} (more : List ℕ) → HasHead text h m b → HasHead (text ++ more) h m b
+pub has_head_more : {text : List ℕ} {h : ℕ} {m : Said} {b : ℕ} (more : List ℕ) → HasHead text h m b → HasHead (text ++ more) h m b
 has_head_more {text} {h} {m} {b} more has = record {
   end = head_end_more more has.end;
   good = subst (λ t. IsGoodHead t m b) (sym (take_more text more h h (omega arith) has.end.in_range)) has.good;

@@ -11,6 +11,8 @@ use Rattle.satip_frame.specs.Said.{Said}
 use Rattle.satip_frame.specs.Places.{IsLineWithin, said_at}
 use Rattle.satip_frame.specs.Stream.{Broken, skip_newlines, Ends}
 use Rattle.satip_frame.specs.Held.{capacity}
+use Rattle.satip_frame.specs.Fronts.{IsSeen}
+use Rattle.satip_frame.specs.declared.looking.Seen.{Seen}
 
 -- the message at a place of the buffer
 abbrev pub said_in : List ℕ → List HeaderSpan → Place → Said
@@ -43,8 +45,9 @@ IsState items start headers (Holding place) = IsPlace items headers place
 IsState items start headers (Ended cause) = Ends (skip_newlines (drop start items)) (Broken cause)
 
 -- the invariant of each framer
-pub record IsFramer (buffer : Vec ℕ) (start : ℕ) (headers : List HeaderSpan) (state : State) : Type 0 where
+pub record IsFramer (buffer : Vec ℕ) (start : ℕ) (headers : List HeaderSpan) (state : State) (seen : Seen) : Type 0 where
   pub start_within : start ≤ vec_len buffer
   pub held : vec_len buffer ≤ capacity
   pub room : capacity ≤ vec_capacity buffer
   pub rests : IsState buffer.items start headers state
+  pub known : IsSeen (drop start buffer.items) seen

@@ -4,11 +4,11 @@ ghost use Rattle.std.specs.Prelude.{◌≡◌, ◌↔◌, ◌⊎◌, ◌<◌, �
 ghost use Rattle.satip_frame.specs.Said.{Said};
 ghost use Rattle.satip_frame.specs.Stream.{Tail, Broken, skip_newlines, Messages, Leads};
 ghost use Rattle.satip_frame.specs.Held.{Held, new_framer, capacity, bytes_taken, step_of, cause_of, Tells};
-ghost use Rattle.satip_frame.specs.Fronts.{IsFront};
+ghost use Rattle.satip_frame.specs.Fronts.{IsSeen, IsFront};
 ghost use Rattle.satip_frame.specs.Inner.{IsPlace, said_in};
 
 use crate::heads::HEADER_LIMIT;
-use crate::looking::{Found, Front, count_newlines, look};
+use crate::looking::{Found, Front, NOTHING_SEEN, Seen, count_newlines, look};
 use crate::said::Message;
 use httparse::spans::{EMPTY_HEADER_SPAN, HeaderSpan};
 use satip_base::Want;
@@ -61,6 +61,8 @@ pub struct Framer {
     start: usize,
     headers: [HeaderSpan; HEADER_LIMIT],
     state: State,
+    /// What is known of the bytes from `start` on.
+    seen: Seen,
 }
 
 impl Model for Framer {
@@ -77,12 +79,13 @@ impl Model for Framer {
       ended = ended_in f.state;
     } };
 
-    ghost invariant = { λ f. IsFramer f.buffer f.start f.headers f.state };
+    ghost invariant = { λ f. IsFramer f.buffer f.start f.headers f.state f.seen };
 }
 
 impl Framer {
     /// Returns a framer to which nothing was fed. It allocates all its memory here; `Want` is out
     /// of memory.
+    #[tactic(auto, using(crate::proofs::FramerLemmas::nothing_seen))]
     pub fn make(alloc: Global) -> Result<Framer, Want>
         ensures made { IfOk result (λ framer. framer ≡ new_framer) }
     {
@@ -92,22 +95,26 @@ impl Framer {
                 start: 0,
                 headers: [EMPTY_HEADER_SPAN; HEADER_LIMIT],
                 state: State::Reading,
+                seen: NOTHING_SEEN,
             }),
             Err(_) => Err(Want),
         }
     }
 
     /// Removes all bytes, as for a new connection.
+    #[tactic(auto, using(crate::proofs::FramerLemmas::nothing_seen))]
     pub fn reset(&mut self)
         ensures made { self.new ≡ new_framer }
     {
         self.buffer.clear();
         self.start = 0;
         self.state = State::Reading;
+        self.seen = NOTHING_SEEN;
     }
 
     /// Takes bytes from the start of a piece, as many as there is room for, and returns their
     /// number. The message that was found last is gone then.
+    #[tactic(auto, using(crate::proofs::FramerLemmas::seen_more))]
     pub fn feed(&mut self, piece: &[u8]) -> usize
         ensures count { result ≡ bytes_taken self.old (length piece.now) }
         ensures none { (result ≡ 0)
@@ -152,8 +159,9 @@ impl Framer {
         if let State::Ended(cause) = self.state {
             return step_of(cause);
         }
-        let (start, front) = find_front(&self.buffer, self.start, &mut self.headers);
+        let (start, front) = find_front(&self.buffer, self.start, self.seen, &mut self.headers);
         self.start = start;
+        self.seen = NOTHING_SEEN;
         match front {
             Front::Whole(found) => {
                 self.state = State::Holding(Place {
@@ -163,8 +171,9 @@ impl Framer {
                 self.start += found.len;
                 Step::Message
             }
-            Front::More => {
+            Front::More(seen) => {
                 self.state = State::Reading;
+                self.seen = seen;
                 Step::More
             }
             Front::Bad => {
@@ -187,6 +196,7 @@ impl Framer {
 
     /// Drops the first `count` of these bytes, which then belong to no message. The message that
     /// was found last is gone then.
+    #[tactic(auto, using(crate::proofs::FramerLemmas::nothing_seen))]
     pub fn skip(&mut self, count: usize)
         requires within { count ≤ length self.old.bytes }
         requires goes_on { IsNone self.old.ended }
@@ -194,8 +204,12 @@ impl Framer {
         ensures found { IsNone self.new.found }
         ensures ended { IsNone self.new.ended }
     {
-        self.start += count;
         self.state = State::Reading;
+        if count == 0 {
+            return;
+        }
+        self.start += count;
+        self.seen = NOTHING_SEEN;
     }
 
     /// Returns the message that the last `next` found; `None` if that found none, and after a
@@ -220,19 +234,24 @@ fn step_of(cause: Break) -> Step
     }
 }
 
-// Steps over the line ends at `start`. Returns the place after them and what begins there.
+// Steps over the line ends at `start`, from where this was seen before. Returns the place after them
+// and what begins there.
+#[tactic(auto, using(crate::proofs::FramerLemmas::nothing_seen))]
 fn find_front(
     buffer: &[u8],
     start: usize,
+    seen: Seen,
     headers: &mut [HeaderSpan; HEADER_LIMIT],
 ) -> (usize, Front)
-    requires { start ≤ length buffer.now }
+    requires within { start ≤ length buffer.now }
+    requires seen { IsSeen (drop start buffer.now) seen }
     ensures within { result.0 ≤ length buffer.now }
     ensures start { drop result.0 buffer.now ≡ skip_newlines (drop start buffer.now) }
     ensures front { IsFront (drop result.0 buffer.now) headers.new result.1 }
 {
     let skipped = start + count_newlines(buffer.split_at(start).1);
-    let front = look(buffer.split_at(skipped).1, headers);
+    let known = if skipped == start { seen } else { NOTHING_SEEN };
+    let front = look(buffer.split_at(skipped).1, known, headers);
     (skipped, front)
 }
 
@@ -261,6 +280,9 @@ fn forget(buffer: &mut Vec<u8>, count: usize)
     ensures items { buffer.new.items ≡ drop count buffer.old.items }
     ensures room { vec_capacity buffer.new ≡ vec_capacity buffer.old }
 {
+    if count == 0 {
+        return;
+    }
     let kept = buffer.len() - count;
     buffer.copy_within(count.., 0);
     buffer.truncate(kept);

@@ -1,5 +1,5 @@
 //! The head of a message: its end, and the places of its first line and its headers.
-ghost use Rattle.std.specs.Prelude.{◌≡◌, ℕ, ◌+◌, ◌<◌, ◌≤◌, List, ◌++◌, length, take, drop, map, min, All, IfSome, IfNone, IsSomeAnd, IsTrue, []};
+ghost use Rattle.std.specs.Prelude.{◌≡◌, ℕ, ◌+◌, ◌-◌, ◌<◌, ◌≤◌, List, ◌++◌, length, take, drop, map, min, All, IfSome, IfNone, IsSomeAnd, IsTrue, []};
 ghost use Rattle.std.specs.Char.{is_ascii_graphic};
 ghost use Rattle.httparse.specs.Ascii.{space};
 ghost use Rattle.httparse.specs.Grammar.{Field, LineEnd, print_end, is_token_byte, ReadsSection};
@@ -12,6 +12,7 @@ ghost use Rattle.satip_frame.specs.Places.{IsLineAt, IsLineWithin, Line, LastWor
 use crate::said::body_length;
 use httparse::spans::{HeaderSpan, Span, parse_headers_from};
 use httparse::{Status, is_method_token};
+use memchr::memchr;
 
 /// The most bytes of a head.
 pub(crate) const HEAD_LIMIT: usize = 8192;
@@ -39,18 +40,37 @@ pub(crate) struct HeadRead {
     pub body: u64,
 }
 
-/// Returns the length of the head that the text begins with, if it is complete.
-pub(crate) fn head_end(text: &[u8]) -> Option<usize>
+/// Returns the length of the head that the text begins with, if it is complete. No head ends in the
+/// first `looked` bytes, and these aren't looked at again.
+#[tactic(auto, using(crate::proofs::HeadEndLemmas::no_line_at))]
+pub(crate) fn head_end(text: &[u8], looked: usize) -> Option<usize>
+    requires looked { HasNoEmptyLine looked text.now }
     ensures found { IfSome result (IsHeadEnd text.now) }
     ensures none { IfNone result (HasNoEmptyLine (min HEAD_LIMIT (length text.now)) text.now) }
 {
     let limit = text.len().min(HEAD_LIMIT);
-    for i in 0..limit {
-        if ends_in_empty_line(&text[..i + 1]) {
-            return Some(i + 1);
+    let mut at = looked;
+    while at < limit {
+        at = next_line(text, at, limit);
+        if ends_in_empty_line(&text[..at]) {
+            return Some(at);
         }
     }
     None
+}
+
+// Returns the place after the first LF from `at` on and below `limit`; `limit` if there is none.
+fn next_line(text: &[u8], at: usize, limit: usize) -> usize
+    requires ordered { at < limit }
+    requires within { limit ≤ length text.now }
+    requires looked { HasNoEmptyLine at text.now }
+    ensures on { (at < result) × (result ≤ limit) }
+    ensures none { HasNoEmptyLine (result - 1) text.now }
+{
+    match memchr(b'\n', &text[at..limit]) {
+        Some(step) => at + step + 1,
+        None => limit,
+    }
 }
 
 fn ends_in_empty_line(text: &[u8]) -> bool

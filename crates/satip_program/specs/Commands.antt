@@ -199,4 +199,4 @@ help = usage
 
 -- the output of --version
 abbrev pub version : List ℕ
-version = codes "satip 0.1.0\n"
+version = codes "satip 0.2.0\n"

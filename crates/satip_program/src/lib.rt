@@ -8,5 +8,5 @@ mod commands;
 mod top;
 
 pub use satip_desk::{Desk, Jobs, JobsFault};
-pub use satip_tunnel_serve::Last;
+pub use satip_tunnel_serve::{Last, TunnelLast};
 pub use top::{Ended, offline, satip};

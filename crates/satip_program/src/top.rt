@@ -66,7 +66,7 @@ const HELP: &[u8] = b"usage: satip talk | replay CONFIG | serve CONFIG ACCEPTS |
     manual: man satip, or docs/satip.1; statuses: docs/PROTOCOL.md; configuration: \
     examples/satip.toml\n";
 
-const VERSION: &[u8] = b"satip 0.1.0\n";
+const VERSION: &[u8] = b"satip 0.2.0\n";
 
 /// The end of a run.
 pub struct Ended<K: Desk> {

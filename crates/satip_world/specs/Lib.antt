@@ -1,4 +1,5 @@
 pub mod Counts
+pub mod Pausing
 pub mod Lines
 pub mod Outboxes
 pub mod Deliveries

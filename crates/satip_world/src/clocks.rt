@@ -1,6 +1,6 @@
 //! Clocks and pauses.
 
-ghost use Rattle.std.specs.Prelude.{ℕ};
+ghost use Rattle.std.specs.Prelude.{ℕ, suc, ◌≤◌};
 
 /// A source of the time.
 pub trait Clock {
@@ -23,5 +23,6 @@ pub trait Pacer {
 
     /// Waits for some time.
     fn pause(&mut self)
-        ensures pauses { Rises (pauses self.old) (pauses self.new) };
+        ensures pauses { Rises (pauses self.old) (pauses self.new) }
+        ensures once { pauses self.new ≤ suc (pauses self.old) };
 }

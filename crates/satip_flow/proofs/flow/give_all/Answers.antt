@@ -1,11 +1,11 @@
-use Rattle.std.proofs.Common.{◌≢◌, ◌+◌, ◌<◌, ◌≤◌, length, get_or, bit_or, refl, sym, ap, subst, ◌∙◌, arith}
+use Rattle.std.proofs.Common.{◌≡◌, ◌≢◌, true, ◌+◌, ◌<◌, ◌≤◌, length, get_or, bit_or, refl, sym, ap, subst, ◌∙◌, arith}
 use Rattle.std.proofs.lemmas.List.{length-set}
 use Rattle.std.specs.Int.{bit_at}
 use Rattle.satip_flow.specs.Subscription.{given, selects}
 use Rattle.satip_flow.proofs.Sweep.{sweep-next}
 use Rattle.satip_flow.proofs.Slots.{slot_below, at_most_64}
 use Rattle.satip_flow.proofs.RoomLemmas.{someone}
-use Rattle.satip_flow.proofs.Passing.{passed, not_selected, given_none, given_more, given_all, still_all}
+use Rattle.satip_flow.proofs.Passing.{passed, not_selected, is_selected, given_none, given_more, given_all, still_all}
 use Rattle.satip_flow.proofs.flow.give_all.Goals as goal
 
 pub loop-at-init : goal.loop-at-init
@@ -18,6 +18,7 @@ loop-at-init c =
           (is.clear i le lt))
           (given_none c.args.front c.args.packet.now c.args.clock xs c.args.out.now);
       within = is.within;
+      is_set = is.is_set;
       few = omega (arith, at_most_64 xs c.requires.apart, c.args.subscribers.now.ok.0);
       capacity = refl;
     }
@@ -31,6 +32,19 @@ give_at-overrun-requires-clause-slot c = λ d.
     let long = still_all c.args.front c.args.packet.now c.args.clock xs c.args.out.now i c.loop-at.subscribers.items c.loop-at.out c.loop-at.overrun so_far in
     let inside : i < length xs = omega (arith, long, c.loop-at-test.true) in
     subst (λ s. s.place.slot < 64) (sym (ap (λ ys. get_or ys i d) so_far.swept ∙ sweep-next f i xs d)) (slot_below xs c.requires.apart i d inside)
+
+pub give_at-overrun-requires-clause-selected : goal.give_at-overrun-requires-clause-selected
+give_at-overrun-requires-clause-selected c = λ d.
+    let f = given c.args.front c.args.packet.now in
+    let xs = c.args.subscribers.now.items in
+    let so_far = c.loop-at.invariant.given_to in
+    let i = c.loop-at.at in
+    let long = still_all c.args.front c.args.packet.now c.args.clock xs c.args.out.now i c.loop-at.subscribers.items c.loop-at.out c.loop-at.overrun so_far in
+    let inside : i < length xs = omega (arith, long, c.loop-at-test.true) in
+    let one = c.loop-at.invariant.is_set (omega (arith, inside, at_most_64 xs c.requires.apart)) in
+    let s = get_or xs i d in
+    subst (λ s. selects c.args.front c.args.packet.now s ≡ true) (sym (ap (λ ys. get_or ys i d) so_far.swept ∙ sweep-next f i xs d))
+    (is_selected (bit_at c.args.places i) (selects c.args.front c.args.packet.now s) (c.requires.selected i inside d) one)
 
 pub give_at-overrun-requires-clause-bytes : goal.give_at-overrun-requires-clause-bytes
 give_at-overrun-requires-clause-bytes c =
@@ -68,6 +82,7 @@ loop-at-preserved c =
           (λ k le lt d within. not_selected (bit_at c.args.places k) (selects front packet (get_or xs k d)) (c.requires.selected k within d) (is.clear k le lt))
           more;
       within = is.within;
+      is_set = is.is_set;
       few = omega (arith, so_far.few, ap length (one.ensures.changed someone), length-set now i (given front packet (get_or now i someone)));
       capacity = one.ensures.capacity ∙ so_far.capacity;
     }

@@ -1,16 +1,22 @@
-use Rattle.std.proofs.Common.{◌∙◌}
-use Rattle.satip_flow.proofs.RowLemmas.{keeps_both}
-use Rattle.satip_flow.proofs.Remarking.{marked_more, left_less}
+use Rattle.std.proofs.Common.{◌≡◌, ◌+◌, ◌*◌, ◌<◌, ℕ, sym, ap, subst, ◌∙◌, arith}
+use Rattle.std.specs.Int.{bit_at}
+use Rattle.satip_pids.specs.Pids.{has_pid}
+use Rattle.satip_flow.specs.Rows.{bit, IsRewritten}
+use Rattle.satip_flow.proofs.Rewriting.{rewritten_more}
 use Rattle.satip_flow.proofs.slot_masks.remark_front.Goals as goal
 
 pub loop-at-preserved : goal.loop-at-preserved
 loop-at-preserved c =
-    let a = c.loop-at.rows.items in
-    let b = c.remark_word.new.rows.items in
+    let at = c.loop-at.at in
+    let start = c.args.start in
+    let was : ℕ → ℕ = λ pid. bit (has_pid c.args.old.now pid) in
+    let is : ℕ → ℕ = λ pid. bit (has_pid c.args.pids.now pid) in
+    let new = c.remark_words.new.rows in
+    let more : 64 * at + 64 ≡ 64 * (at + 1) = omega arith in
     record {
-      count = c.remark_word.ensures.count ∙ c.loop-at.invariant.count;
-      others = keeps_both c.args.slot c.args.rows.now.items a b c.loop-at.invariant.others c.remark_word.ensures.others;
-      marked = marked_more c.loop-at.at c.args.start c.args.slot a b c.args.old.now c.args.pids.now c.loop-at.invariant.marked c.loop-at.invariant.left
-          c.remark_word.ensures.marked c.remark_word.ensures.elsewhere;
-      left = left_less c.loop-at.at c.args.start c.args.slot a b c.args.old.now c.loop-at.invariant.left c.remark_word.ensures.elsewhere;
+      written = subst (λ n. IsRewritten n start c.args.slots was is c.args.rows.now new) more
+          (rewritten_more (64 * at) 64 start (start + 64 * at) c.args.slots was is (λ i. bit_at c.word.result i) (λ i. bit_at c.word-in-loop-at.result i)
+          c.args.rows.now c.loop-at.rows new (omega arith) c.word.ensures.bits c.word-in-loop-at.ensures.bits c.loop-at.invariant.written
+          c.remark_words.ensures.written);
+      count = c.remark_words.ensures.count ∙ c.loop-at.invariant.count;
     }

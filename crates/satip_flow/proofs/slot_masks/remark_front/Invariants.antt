@@ -1,13 +1,10 @@
-use Rattle.std.proofs.Common.{◌≡◌, vec_len}
-use Rattle.satip_flow.specs.Rows.{KeepsOthers}
-use Rattle.satip_flow.proofs.RowLemmas.{MarkedTo}
-use Rattle.satip_flow.proofs.Remarking.{MarkedFrom}
+use Rattle.std.proofs.Common.{◌≡◌, ◌*◌, length}
+use Rattle.satip_pids.specs.Pids.{has_pid}
+use Rattle.satip_flow.specs.Rows.{bit, IsRewritten}
 use Rattle.satip_flow.proofs.slot_masks.remark_front.Given as goal
 
 abbrev pub invariant-loop-at : goal.invariant-loop-at
 invariant-loop-at l = record {
-  count : vec_len l.rows ≡ vec_len l.initial.rows;
-  others : KeepsOthers l.slot l.initial.rows.items l.rows.items;
-  marked : MarkedTo l.at l.rows.items l.start l.slot l.pids;
-  left : MarkedFrom l.at l.rows.items l.start l.slot l.old;
+  written : IsRewritten (64 * l.at) l.start l.slots (λ pid. bit (has_pid l.old pid)) (λ pid. bit (has_pid l.pids pid)) l.initial.rows l.rows;
+  count : length l.rows ≡ length l.initial.rows;
 }

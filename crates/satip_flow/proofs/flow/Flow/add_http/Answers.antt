@@ -1,13 +1,15 @@
-use Rattle.std.proofs.Common.{◌≡◌, ◌+◌, ◌<◌, false, cond, [], vec_len, sym, ap, subst, ◌∙◌, arith}
+use Rattle.std.proofs.Common.{true, None, ◌≡◌, ◌+◌, ◌<◌, false, cond, [], vec_len, sym, ap, subst, ◌∙◌, arith}
 use Rattle.std.proofs.lemmas.List.Elements.{All-pop}
 use Rattle.std.specs.List.{list_any}
+use Rattle.std.specs.Vec.{with_items}
+use Rattle.std.proofs.lemmas.List.{with_items_is}
 use Rattle.circular_buffer.specs.Buffer.{buffer}
-use Rattle.satip_flow.specs.Subscription.{has_slot, ToQueue}
-use Rattle.satip_flow.specs.Subscriptions.{SlotsApart}
+use Rattle.satip_flow.specs.Subscription.{has_slot, subscription, ToQueue}
+use Rattle.satip_flow.specs.Subscriptions.{put, SlotsApart}
 use Rattle.satip_flow.specs.Queues.{has_queue}
-use Rattle.satip_flow.specs.Rows.{IsPlaced}
+use Rattle.satip_flow.specs.Rows.{IsLike, IsMarked, IsPlaced, KeepsSlots, Shows}
 use Rattle.satip_flow.proofs.Slots.{apart-put}
-use Rattle.satip_flow.proofs.RowLemmas.{shown_added}
+use Rattle.satip_flow.proofs.Marking.{marked_put, nobody_shown}
 use Rattle.satip_flow.proofs.RoomLemmas.{sound_put, queue_left}
 use Rattle.satip_flow.proofs.flow.Flow.add_http.Goals as goal
 
@@ -30,9 +32,17 @@ note_places-requires-clause-apart c =
     let is = c.queued.ensures.subscription in
     let free = rw (← c.self.view_is) at c.requires.free in
     let xs = c.self.inside.subscribers.items in
-    subst (λ ys. SlotsApart ys) (sym (c.deref.ensures.value ∙ c.insert_ordered.ensures.added))
+    subst (λ ys. SlotsApart ys) (sym (c.deref-2.ensures.value ∙ c.insert_ordered.ensures.added))
     (apart-put s xs (subst (λ s. s.place.slot < 64) (sym is) c.requires.slot) (subst (λ s. list_any (has_slot s.place.slot) xs ≡ false) (sym is) free)
     c.self.invariant.apart)
+
+pub remark-requires-clause-shown : goal.remark-requires-clause-shown
+remark-requires-clause-shown c =
+    let free = rw (← c.self.view_is) at c.requires.free in
+    let xs = c.self.inside.subscribers.items in
+    subst (λ rows. Shows rows c.slot_bit-own.result None c.args.pids.now) (sym c.deref_mut.ensures.value)
+    (nobody_shown c.self.inside.rows.items c.slot_bit-own.result c.args.place.slot xs c.args.pids.now c.slot_bit-own.ensures.bits free
+    c.self.invariant.marked.exact)
 
 pub invariant_of-self : goal.invariant_of-self
 invariant_of-self c =
@@ -40,21 +50,33 @@ invariant_of-self c =
     let is = c.queued.ensures.subscription in
     let free = rw (← c.self.view_is) at c.requires.free in
     let xs = c.self.inside.subscribers.items in
+    let one = subscription c.args.place c.args.front c.args.pids.now (ToQueue []) in
+    let own = c.slot_bit-own.result in
+    let rows = c.self.inside.rows.items in
+    let new = c.remark.new.rows in
+    let others = subst (λ rs. KeepsSlots own rs new) c.deref_mut.ensures.value c.remark.ensures.others in
+    let like = subst (λ ys. c.is_like-is_alike.result ≡ true → IsLike c.self.inside.alike ys c.args.place.stream c.args.front c.args.pids.now)
+    c.deref.ensures.value c.is_like-is_alike.ensures.like in
+    let marked = marked_put rows new c.self.inside.alike own xs one c.slot_bit-own.type_inv c.slot_bit-own.ensures.bits free c.requires.front
+    c.remark.ensures.shown others c.is_like-is_alike.result like c.self.invariant.marked in
+    let whole = with_items_is c.self.inside.rows new (c.remark.ensures.count ∙ sym c.self.invariant.row_count) in
     let left = rw c.unwrap-queue.ensures at c.pop.ensures.len in
     let rest = All-pop (λ queue. queue ≡ buffer [] 4096) c.self.inside.spare_queues.items c.pop.new.self.items c.pop.result c.pop.ensures.items
     c.self.invariant.queues in
     sound_put c.self.inside (record {
       subscribers = c.insert_ordered.new.subscribers;
       spare_queues = c.pop.new.self;
-      rows = c.mark.new.rows;
+      rows = with_items c.self.inside.rows c.remark.new.rows;
+      alike = c.with_slots-self-inside.result;
       places = c.note_places.new.places;
     }) s
     (subst (λ s. s.place.slot < 64) (sym is) c.requires.slot)
     (subst (λ s. list_any (has_slot s.place.slot) xs ≡ false) (sym is) free)
     c.insert_ordered.ensures.added c.insert_ordered.ensures.capacity c.pop.ensures.capacity rest.0
     (ap (λ s. vec_len c.pop.new.self + cond (has_queue s) 1 0) is ∙ omega (arith, left))
-    c.mark.ensures.count c.note_places.ensures.count
-    (shown_added c.self.inside.rows.items c.mark.new.rows.items xs s c.args.place c.args.front c.args.pids.now (ToQueue []) is c.requires.front
-    c.mark.ensures.marked c.mark.ensures.others c.self.invariant.apart free c.self.invariant.shown)
-    (subst (λ ys. IsPlaced c.note_places.new.places ys) c.deref.ensures.value c.note_places.ensures.placed)
+    c.self.invariant.row_count c.note_places.ensures.count
+    (subst (λ rows. IsMarked rows c.with_slots-self-inside.result (put s xs)) (sym whole)
+    (subst (λ s. IsMarked new c.with_slots-self-inside.result (put s xs)) (sym is)
+    (subst (λ n. IsMarked new n (put one xs)) (sym c.with_slots-self-inside.ensures.written) marked)))
+    (subst (λ ys. IsPlaced c.note_places.new.places ys) c.deref-2.ensures.value c.note_places.ensures.placed)
     c.self.invariant

@@ -2,7 +2,7 @@ use Rattle.std.proofs.Common.{◌≡◌, false, cond, is_some, option_map, refl,
 use Rattle.std.specs.Option.{option_and_then}
 use Rattle.satip_flow.specs.Subscription.{has_slot, packing_of, readdressed, readdressed_feed}
 use Rattle.satip_flow.specs.Subscriptions.{change_slot, packing_of_slot}
-use Rattle.satip_flow.proofs.RoomLemmas.{someone, sound_kept, feed_shown, some_shown, keeps_some, readdressed_keeps}
+use Rattle.satip_flow.proofs.RoomLemmas.{someone, sound_kept, feed_choice, some_choice, keeps_some, readdressed_keeps}
 use Rattle.satip_flow.proofs.flow.Flow.address.Goals as goal
 
 pub returns-in_default-clause-found : goal.returns-in_default-clause-found
@@ -36,10 +36,11 @@ invariant_of-self c =
       subscribers = c.readdress_at.new.subscribers;
       spare_queues = c.self.inside.spare_queues;
       rows = c.self.inside.rows;
+      alike = c.self.inside.alike;
       places = c.self.inside.places;
     })
     (λ s. cond (has_slot c.args.slot s) (readdressed c.args.to s) s)
     (keeps_some (has_slot c.args.slot) (readdressed c.args.to) (readdressed_keeps c.args.to))
-    (some_shown (has_slot c.args.slot) (readdressed c.args.to) (feed_shown (λ s. readdressed_feed c.args.to s.feed)))
+    (some_choice (has_slot c.args.slot) (readdressed c.args.to) (feed_choice (λ s. readdressed_feed c.args.to s.feed)))
     (c.readdress_at.ensures.changed someone ∙ sym (stands.changed (readdressed c.args.to) someone))
-    c.readdress_at.ensures.capacity refl refl refl c.self.invariant
+    c.readdress_at.ensures.capacity refl refl refl refl c.self.invariant

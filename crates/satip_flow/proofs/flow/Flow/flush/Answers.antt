@@ -3,7 +3,7 @@ use Rattle.satip_rtp.specs.Sending.{SendsAll}
 use Rattle.satip_flow.specs.Subscription.{has_slot, flushed, flushed_feed}
 use Rattle.satip_flow.specs.Subscriptions.{change_slot, feed_of_slot, holds_any, flushed_datagrams}
 use Rattle.satip_flow.proofs.Sends.{nothing_sent}
-use Rattle.satip_flow.proofs.RoomLemmas.{someone, sound_kept, feed_shown, some_shown, keeps_some, flushed_keeps}
+use Rattle.satip_flow.proofs.RoomLemmas.{someone, sound_kept, feed_choice, some_choice, keeps_some, flushed_keeps}
 use Rattle.satip_flow.proofs.flow.Flow.flush.Goals as goal
 
 pub returns-in_default-clause-held : goal.returns-in_default-clause-held
@@ -50,10 +50,11 @@ invariant_of-self c =
       subscribers = c.flush_at.new.subscribers;
       spare_queues = c.self.inside.spare_queues;
       rows = c.self.inside.rows;
+      alike = c.self.inside.alike;
       places = c.self.inside.places;
     })
     (λ s. cond (has_slot c.args.slot s) (flushed s) s)
     (keeps_some (has_slot c.args.slot) flushed flushed_keeps)
-    (some_shown (has_slot c.args.slot) flushed (feed_shown (λ s. flushed_feed s.feed)))
+    (some_choice (has_slot c.args.slot) flushed (feed_choice (λ s. flushed_feed s.feed)))
     (c.flush_at.ensures.changed someone ∙ sym (stands.changed flushed someone))
-    c.flush_at.ensures.capacity refl refl refl c.self.invariant
+    c.flush_at.ensures.capacity refl refl refl refl c.self.invariant

@@ -4,7 +4,7 @@ use Rattle.std.specs.Option.{option_and_then}
 use Rattle.satip_base.specs.Output.{Wrote}
 use Rattle.satip_flow.specs.Subscription.{has_slot, queue_of, pulled, pulled_feed}
 use Rattle.satip_flow.specs.Subscriptions.{change_slot, queue_of_slot}
-use Rattle.satip_flow.proofs.RoomLemmas.{someone, sound_kept, feed_shown, some_shown, keeps_some, pulled_keeps}
+use Rattle.satip_flow.proofs.RoomLemmas.{someone, sound_kept, feed_choice, some_choice, keeps_some, pulled_keeps}
 use Rattle.satip_flow.proofs.flow.Flow.pull.Goals as goal
 
 pub returns-in_default-clause-bytes : goal.returns-in_default-clause-bytes
@@ -55,10 +55,11 @@ invariant_of-self c =
       subscribers = c.pull_at.new.subscribers;
       spare_queues = c.self.inside.spare_queues;
       rows = c.self.inside.rows;
+      alike = c.self.inside.alike;
       places = c.self.inside.places;
     })
     (λ s. cond (has_slot c.args.slot s) (pulled s) s)
     (keeps_some (has_slot c.args.slot) pulled pulled_keeps)
-    (some_shown (has_slot c.args.slot) pulled (feed_shown (λ s. pulled_feed s.feed)))
+    (some_choice (has_slot c.args.slot) pulled (feed_choice (λ s. pulled_feed s.feed)))
     (c.pull_at.ensures.changed someone ∙ sym (stands.changed pulled someone))
-    c.pull_at.ensures.capacity refl refl refl c.self.invariant
+    c.pull_at.ensures.capacity refl refl refl refl c.self.invariant

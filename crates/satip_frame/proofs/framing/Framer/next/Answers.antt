@@ -3,7 +3,7 @@ use Rattle.satip_frame.specs.declared.looking.Front.TheVariants.{Whole, More, Ba
 use Rattle.satip_frame.specs.Held.{Held, step_of}
 use Rattle.satip_frame.specs.Stream.{Broken, skip_newlines, Ends}
 use Rattle.satip_frame.specs.Inner.{IsState}
-use Rattle.satip_frame.proofs.FramerLemmas.{stands, at_more, at_bad, at_too_long, ended_here, held_shorter, ended_told, ended_exact, whole_within, whole_place, whole_told, whole_exact, end_told, end_exact, unfinished_short}
+use Rattle.satip_frame.proofs.FramerLemmas.{nothing_seen, stands, at_more, at_bad, at_too_long, ended_here, held_shorter, ended_told, ended_exact, whole_within, whole_place, whole_told, whole_exact, end_told, end_exact, unfinished_short}
 use Rattle.satip_frame.proofs.framing.Framer.next.Goals as goal
 
 pub invariant_of-self : goal.invariant_of-self
@@ -15,6 +15,7 @@ invariant_of-self c =
       held = c.self.invariant.held;
       room = c.self.invariant.room;
       rests = whole_place here;
+      known = nothing_seen _;
     }
 
 pub returns-in-Whole : goal.returns-in-Whole
@@ -34,7 +35,7 @@ returns-in-Whole c =
 pub returns-in-More : goal.returns-in-More
 returns-in-More c =
     let f = c.find_front-start.ensures in
-    let here = stands {b = More} c.deref.ensures.value c.in-More.is f.within f.start f.front in
+    let here = stands {b = More c.in-More.seen} c.deref.ensures.value c.in-More.is f.within f.start f.front in
     let end = at_more here in
     let held = ap (λ (v : Held). v.bytes) c.self.view_is in
     record {
@@ -43,7 +44,19 @@ returns-in-More c =
       found = (λ e. absurd (cc), λ e. absurd (cc));
       ended = refl;
       shorter = held_shorter here _ held _ (omega arith);
-      room = λ _. unfinished_short _ here.is_front;
+      room = λ _. unfinished_short _ here.is_front.0;
+    }
+
+pub invariant_of-self-in-More : goal.invariant_of-self-in-More
+invariant_of-self-in-More c =
+    let f = c.find_front-start.ensures in
+    let here = stands {b = More c.in-More.seen} c.deref.ensures.value c.in-More.is f.within f.start f.front in
+    record {
+      start_within = omega (arith, here.within);
+      held = c.self.invariant.held;
+      room = c.self.invariant.room;
+      rests = tt;
+      known = here.is_front.1;
     }
 
 pub returns-in-Bad : goal.returns-in-Bad
@@ -85,6 +98,7 @@ invariant_of-self-in-Bad c =
       held = c.self.invariant.held;
       room = c.self.invariant.room;
       rests = ended_here (at_bad here);
+      known = nothing_seen _;
     }
 
 pub invariant_of-self-in-TooLong : goal.invariant_of-self-in-TooLong
@@ -96,6 +110,7 @@ invariant_of-self-in-TooLong c =
       held = c.self.invariant.held;
       room = c.self.invariant.room;
       rests = ended_here (at_too_long here);
+      known = nothing_seen _;
     }
 
 pub returns-in-Ended-clause-told : goal.returns-in-Ended-clause-told

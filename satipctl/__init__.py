@@ -1,0 +1,1 @@
+"""satipctl: checks, watches and changes a running satip. Each subcommand is a module."""

@@ -1,0 +1,133 @@
+"""Writes what a running server does as text for Prometheus.
+
+Without a word it prints the metrics once. With --listen it serves them to Prometheus; with
+--textfile it writes them every 15 seconds to a file of node_exporter's textfile collector, which
+is replaced as a whole. The status file is found as by `satipctl status`. If it can't be read,
+satip_up is 0, and the other metrics are left out.
+"""
+
+import os
+import time
+
+from . import place, status_file, watch
+from .client import server_of
+from .command import Fault, library
+
+PORT = 9554
+
+
+def add_words(words):
+    watch.add_words(words)
+    way = words.add_mutually_exclusive_group()
+    way.add_argument("--listen", metavar="ADDRESS:PORT", help=f"serves them; as 127.0.0.1:{PORT}")
+    way.add_argument("--textfile", metavar="FILE.prom", help="writes them to a file, again and again")
+    words.add_argument("--every", metavar="SECONDS", type=float, default=15, help="of --textfile")
+
+
+def run(given):
+    client = library("prometheus_client", "python3-prometheus-client")
+    registry = client.CollectorRegistry(auto_describe=False)
+    registry.register(Collector(given))
+    if given.listen:
+        address, _, port = given.listen.rpartition(":")
+        if not port.isdigit():
+            raise Fault(f"{given.listen}: no ADDRESS:PORT")
+        client.start_http_server(int(port), address or "127.0.0.1", registry)
+        while True:
+            time.sleep(3600)
+    while given.textfile:
+        client.write_to_textfile(given.textfile, registry)
+        time.sleep(given.every)
+    print(client.generate_latest(registry).decode(), end="")
+    return 0
+
+
+class Collector:
+    """Reads the status when Prometheus asks."""
+
+    def __init__(self, given):
+        self.path = place.status_file(given)
+        self.server = None if given.no_describe else given.config
+        self.core = library("prometheus_client.core", "python3-prometheus-client")
+
+    def collect(self):
+        try:
+            status = status_file.read(self.path)
+        except Fault:
+            yield self.gauge("up", "Whether the status file of the server can be read.", 0)
+            return
+        yield self.gauge("up", "Whether the status file of the server can be read.", 1)
+        yield from self.totals(status)
+        yield from self.of_connections(status)
+        yield from self.of_destinations(status)
+        yield from self.of_front_ends(status)
+        yield from self.of_streams()
+
+    def gauge(self, name, told, value=None, labels=None):
+        return self.core.GaugeMetricFamily(f"satip_{name}", told, value=value, labels=labels)
+
+    def counter(self, name, told, value=None, labels=None):
+        return self.core.CounterMetricFamily(f"satip_{name}", told, value=value, labels=labels)
+
+    def totals(self, status):
+        info = self.core.InfoMetricFamily("satip", "The program.")
+        info.add_metric((), {"version": status.version})
+        yield info
+        yield self.gauge("uptime_seconds", "Seconds since the start.", status.uptime)
+        yield self.gauge("connections", "Connections that are open.", len(status.connections))
+        yield self.counter("connections_accepted", "Connections that were accepted.", status.taken)
+        yield self.by_cause("connections_refused", "Connections that were refused.", status.refused)
+        yield self.counter("lines", "Lines on standard error.", status.lines)
+
+    def by_cause(self, name, told, counts):
+        family = self.counter(name, told, labels=("cause",))
+        for cause, count in counts.items():
+            family.add_metric((cause,), count)
+        return family
+
+    def of_connections(self, status):
+        labels = ("client", "kind")
+        sent = self.counter("connection_sent_bytes", "Bytes sent to a client.", labels=labels)
+        received = self.counter("connection_received_bytes", "Bytes received.", labels=labels)
+        for it in status.connections:
+            sent.add_metric((it.address, it.kind), it.sent)
+            received.add_metric((it.address, it.kind), it.received)
+        yield from (sent, received)
+
+    def of_destinations(self, status):
+        labels = ("destination",)
+        count = self.counter("datagrams", "Datagrams that the system took.", labels=labels)
+        size = self.counter("datagram_bytes", "Bytes of these datagrams.", labels=labels)
+        told = "Datagrams that the system refused."
+        refused = self.counter("datagrams_refused", told, labels=(*labels, "cause"))
+        for it in status.destinations:
+            count.add_metric((it.address,), it.datagrams)
+            size.add_metric((it.address,), it.bytes)
+            for cause, lost in it.refused.items():
+                refused.add_metric((it.address, cause), lost)
+        yield from (count, size, refused)
+
+    def of_front_ends(self, status):
+        labels = ("front_end", "recording")
+        packets = self.counter("front_end_packets", "Transport packets read.", labels=labels)
+        restarts = self.counter("front_end_restarts", "New starts of a recording.", labels=labels)
+        behind = self.gauge("front_end_behind_seconds", "Seconds behind its rate.", labels=labels)
+        for it in status.front_ends:
+            names = str(it.number), it.file or ""
+            packets.add_metric(names, it.packets)
+            restarts.add_metric(names, it.restarts)
+            behind.add_metric(names, it.behind)
+        yield from (packets, restarts, behind)
+
+    def of_streams(self):
+        """Streams by their state, if the server was asked and answers."""
+        try:
+            streams = watch.describe(server_of(os.path.join(".", self.server))) if self.server else None
+        except Fault:
+            streams = None
+        if streams is None:
+            return
+        family = self.gauge("streams", "Streams that live.", labels=("state",))
+        family.add_metric(("playing",), sum(it.plays for it in streams))
+        family.add_metric(("paused",), sum(not it.plays for it in streams))
+        yield family

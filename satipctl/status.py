@@ -1,0 +1,107 @@
+"""Shows front ends, streams and viewers of a running server, with their bit rates.
+
+It reads the server's status file twice, a second apart, and asks DESCRIBE for the multiplexes. The
+file is the one that --status-file or SATIP_STATUS names, else that of the unit that serves by
+CONFIG: /run/satip/status for satip.toml, /run/satip-NAME/status for NAME.toml. An RTP viewer is a
+destination of datagrams; it has no age, as its session isn't in the file.
+
+The status is 0, 1 if the file isn't written any more, and 2 if it can't be read.
+"""
+
+import json
+import sys
+
+from . import watch
+from .command import library
+from .watch import age_text, bytes_text, rate_text
+
+
+def add_words(words):
+    watch.add_words(words)
+    words.add_argument("--watch", action="store_true", help="once a second, until it is stopped")
+    words.add_argument("--json", action="store_true", help="one JSON object, a line for each second")
+
+
+def run(given):
+    seen = watch.Watch(given)
+    if given.json:
+        return in_lines(given, seen, lambda reading: json.dumps(reading.to_json()))
+    if not given.watch:
+        for line in text(seen.next()):
+            print(line)
+        return 0
+    if not sys.stdout.isatty():
+        return in_lines(given, seen, lambda reading: "\n".join([*text(reading), ""]))
+    return live(seen)
+
+
+def in_lines(given, seen, told):
+    while True:
+        print(told(seen.next()), flush=True)
+        if not given.watch:
+            return 0
+
+
+def live(seen):
+    """One screen that changes."""
+    rich_live = library("rich.live", "python3-rich")
+    rich_text = library("rich.text", "python3-rich")
+    with rich_live.Live(auto_refresh=False, screen=True) as screen:
+        while True:
+            screen.update(rich_text.Text("\n".join(text(seen.next()))), refresh=True)
+
+
+def table(head, rows):
+    """Columns as wide as their widest cell."""
+    rows = [head, *rows]
+    widths = [max(map(len, column)) for column in zip(*rows)]
+    for row in rows:
+        yield "  ".join(cell.ljust(width) for cell, width in zip(row, widths)).rstrip()
+
+
+def text(reading):
+    """The lines for people."""
+    now = reading.now
+    viewers = sorted(reading.viewers(), key=lambda it: (it.kind, it.address))
+    rate = rate_text(sum(it.rate for it in viewers))
+    yield f"satip {now.version}, up {age_text(now.uptime)}, since {now.start}"
+    yield f"sends {rate}; connections open {len(now.connections)}, taken {now.taken}" + counts(
+        ", refused", now.refused
+    ) + counts("; datagrams refused", reading.lost())
+    yield ""
+    yield from table(
+        ("front end", "multiplex", "PIDs", "recording", "rate", "restarts", "behind"),
+        [front_row(it) for it in reading.fronts()],
+    )
+    yield ""
+    if reading.streams is None:
+        yield "streams: the server was not asked, or didn't answer"
+    else:
+        rows = [
+            (str(it.number), str(it.front_end or ""), it.tuning, "plays" if it.plays else "pauses")
+            for it in reading.streams
+        ]
+        yield from table(("stream", "front end", "multiplex", "state"), rows)
+    yield ""
+    yield from table(
+        ("viewer", "kind", "since", "rate", "sent", "refused"),
+        [
+            (it.address, it.kind, age_text(it.age), rate_text(it.rate), bytes_text(it.bytes),
+             str(it.refused or ""))
+            for it in viewers
+        ],
+    )
+
+
+def front_row(front):
+    pids = front.pids or ""
+    return (
+        str(front.number), front.multiplex or "", pids if len(pids) < 30 else f"{pids[:27]}..",
+        front.file or "idle", rate_text(front.rate), str(front.restarts), f"{front.behind:.2f} s",
+    )
+
+
+def counts(name, by_cause):
+    """The counts that aren't 0, after a name."""
+    told = [f"{cause} {count}" for cause, count in by_cause.items() if count]
+    return f"{name}: {', '.join(told)}" if told else ""

@@ -1,0 +1,195 @@
+"""What a running server does, from two readings of its status file and its description."""
+
+import os
+import re
+import time
+from dataclasses import asdict, dataclass
+
+from . import place, status_file
+from .client import Rtsp, server_of
+from .command import Fault
+
+PACKET_BITS = 188 * 8
+# A server writes its status once a second.
+PERIOD, PATIENCE = 1.0, 3.0
+SES1 = re.compile(
+    r"a=control:stream=(\d+)\r\na=fmtp:33 ver=1\.0;src=(\d+);tuner=([^;]*);pids=(\S+)\r\na=(\w+)"
+)
+
+
+@dataclass
+class Stream:
+    """A living stream, as DESCRIBE lists it."""
+
+    number: int
+    front_end: int
+    tuning: str
+    pids: str
+    plays: bool
+
+
+@dataclass
+class Viewer:
+    """Who gets packets: a destination of RTP or a connection. Rates are in bit/s."""
+
+    address: str
+    kind: str
+    age: float | None
+    rate: float
+    bytes: int
+    refused: int
+
+
+@dataclass
+class Front:
+    """A front end with its rate in bit/s; `multiplex` is None if no stream is described on it."""
+
+    number: int
+    file: str | None
+    multiplex: str | None
+    pids: str | None
+    rate: float
+    packets: int
+    restarts: int
+    behind: float
+
+
+def add_words(words):
+    place.add_words(words)
+    words.add_argument("--status-file", metavar="FILE", help="the server's SATIP_STATUS")
+    words.add_argument("--no-describe", action="store_true", help="asks the server nothing")
+
+
+def streams_of(description):
+    """The streams of a description."""
+    for number, src, tuner, pids, direction in SES1.findall(description):
+        fields = tuner.split(",")
+        told = f"{fields[4]} MHz {fields[5]}, {fields[6]}, {fields[10]} kS/s, position {src}"
+        tuned = len(fields) > 10 and fields[4]
+        plays = direction == "sendonly"
+        yield Stream(int(number), int(fields[0]), told if tuned else "untuned", pids, plays)
+
+
+def describe(server):
+    """The streams of a server; None if it doesn't answer, as if all workers are busy."""
+    try:
+        with Rtsp(*server, timeout=2) as client:
+            return list(streams_of(client.ask("DESCRIBE", client.base, "Accept: application/sdp")))
+    except OSError:
+        return None
+
+
+def is_report_port(address, all_addresses):
+    """Whether a destination gets the reports of another one: RTCP goes to the port after RTP's."""
+    host, _, port = address.rpartition(":")
+    return int(port) % 2 == 1 and f"{host}:{int(port) - 1}" in all_addresses
+
+
+class Reading:
+    """A status and the one before it, whose differences are what happened meanwhile."""
+
+    def __init__(self, before, now, streams):
+        self.before, self.now, self.streams = before, now, streams
+        self.seconds = now.uptime - before.uptime
+
+    def rate(self, now, before):
+        """Bits a second from two counts of bytes; the count of who is new began at 0."""
+        return max(now - before, 0) * 8 / self.seconds if self.seconds > 0 else 0.0
+
+    def viewers(self):
+        """Destinations and connections that got something since the reading before."""
+        old = {it.address: it.bytes for it in self.before.destinations}
+        addresses = {it.address for it in self.now.destinations}
+        for it in self.now.destinations:
+            lost, rate = sum(it.refused.values()), self.rate(it.bytes, old.get(it.address, 0))
+            lost_before = sum(
+                sum(other.refused.values())
+                for other in self.before.destinations
+                if other.address == it.address
+            )
+            if not is_report_port(it.address, addresses) and (rate > 0 or lost > lost_before):
+                yield Viewer(it.address, "RTP", None, rate, it.bytes, lost)
+        sent = {it.address: it.sent for it in self.before.connections}
+        for it in self.now.connections:
+            rate = self.rate(it.sent, sent.get(it.address, 0))
+            yield Viewer(it.address, it.kind.upper(), it.age, rate, it.sent, 0)
+
+    def fronts(self):
+        old = {it.number: it.packets for it in self.before.front_ends}
+        streams = {it.front_end: it for it in self.streams or ()}
+        for it in self.now.front_ends:
+            stream = streams.get(it.number)
+            packets = max(it.packets - old.get(it.number, 0), 0)
+            rate = packets * PACKET_BITS / self.seconds if self.seconds > 0 else 0.0
+            yield Front(
+                it.number, it.file, stream and stream.tuning, stream and stream.pids, rate,
+                it.packets, it.restarts, it.behind,
+            )
+
+    def lost(self):
+        """All datagrams that the system refused, by cause."""
+        counts = {}
+        for it in self.now.destinations:
+            for cause, count in it.refused.items():
+                counts[cause] = counts.get(cause, 0) + count
+        return counts
+
+    def to_json(self):
+        now, viewers = self.now, list(self.viewers())
+        return {
+            "version": now.version,
+            "start": now.start,
+            "uptime": now.uptime,
+            "taken": now.taken,
+            "open": len(now.connections),
+            "refused_connections": now.refused,
+            "refused_datagrams": self.lost(),
+            "lines": now.lines,
+            "rate": sum(it.rate for it in viewers),
+            "front_ends": [asdict(it) for it in self.fronts()],
+            "streams": None if self.streams is None else [asdict(it) for it in self.streams],
+            "viewers": [asdict(it) for it in viewers],
+        }
+
+
+class Watch:
+    """Reads a server's status again and again."""
+
+    def __init__(self, given):
+        self.path = place.status_file(given)
+        self.server = None
+        if not given.no_describe and os.path.exists(given.config):
+            self.server = server_of(os.path.join(".", given.config))
+        self.last = status_file.read(self.path)
+        self.is_first = True
+
+    def next(self):
+        """The next reading: waits until the server has written another status."""
+        until = time.monotonic() + PATIENCE
+        while (now := status_file.read(self.path)).uptime == self.last.uptime:
+            if time.monotonic() > until:
+                raise Fault(f"{self.path}: not written for {PATIENCE:g} s; has the server ended?", 1)
+            time.sleep(PERIOD / 10)
+        before = self.last if now.start == self.last.start else now
+        self.last = now
+        return Reading(before, now, describe(self.server) if self.server else None)
+
+
+def rate_text(rate):
+    return f"{rate / 1e6:.2f} Mbit/s" if rate >= 1e5 else f"{rate / 1e3:.1f} kbit/s"
+
+
+def bytes_text(count):
+    for unit in ("B", "kB", "MB", "GB"):
+        if count < 1000:
+            return f"{count:.0f} {unit}" if unit == "B" else f"{count:.1f} {unit}"
+        count /= 1000
+    return f"{count:.1f} TB"
+
+
+def age_text(seconds):
+    if seconds is None:
+        return ""
+    minutes, rest = divmod(int(seconds), 60)
+    hours, minutes = divmod(minutes, 60)
+    return f"{hours}:{minutes:02}:{rest:02}"

@@ -1,0 +1,217 @@
+#!/usr/bin/python3
+"""`satipctl status`, `metrics`, `page` and `stop` say of a running server what its clients really did.
+
+    trials/watched_server.py [--keep PICTURE]
+
+A server with SATIP_STATUS and SATIP_STOP has three viewers: two over UDP, one over HTTP. One more has
+left, and the datagrams of another are refused, since nobody listens at its port. What satipctl says
+of each is compared with what the viewers counted meanwhile; a rate may differ by 5 %. The page is
+drawn by Chromium, if it is installed, and kept in PICTURE. Then the server is asked to end: it ends
+with status 0 when the last viewer has left.
+
+Needs the built program (trials/lib/server.py).
+
+Packages: prometheus python3-prometheus-client
+"""
+
+import argparse
+import json
+import os
+import re
+import shutil
+import subprocess
+import sys
+import tempfile
+import threading
+import time
+import urllib.request
+
+sys.dont_write_bytecode = True
+from lib.checks import Checks, seconds
+from lib.rtp import Receivers, port_of, receiver
+from lib.rtsp import over_udp
+from lib.server import PACKETS_A_SECOND, QUERIES, TOP, Server, free_ports
+
+SATIPCTL = os.path.join(TOP, "bin", "satipctl")
+ADDRESS = "127.0.0.1"
+# Of the payload: 64 packets each 20 ms. A datagram has 12 bytes more for 1316.
+RATE = PACKETS_A_SECOND * 188 * 8
+RTP_RATE = RATE * 1328 / 1316
+
+
+def ctl(*words):
+    return subprocess.run((SATIPCTL, *words), capture_output=True, text=True, check=False)
+
+
+def is_near(rate, expected):
+    return abs(rate / expected - 1) < 0.05
+
+
+class Reader:
+    """Reads a stream over HTTP, and counts its bytes."""
+
+    def __init__(self, server, query):
+        self.line, self.count = server.read(query), 0
+        self.thread = threading.Thread(target=self.read, daemon=True)
+        self.thread.start()
+
+    def read(self):
+        try:
+            while piece := self.line.recv(65536):
+                self.count += len(piece)
+        except OSError:
+            pass
+
+    def address(self):
+        return "%s:%d" % self.line.getsockname()
+
+
+class Play:
+    """The server's clients: see the head of this file."""
+
+    def __init__(self, server):
+        self.receivers = Receivers(ADDRESS, 2)
+        self.ports = [port_of(it) for it in self.receivers.socks]
+        self.client = server.client()
+        self.target, self.sessions = self.client.play_to(self.ports, QUERIES[0])
+        self.reader = Reader(server, QUERIES[1])
+        with receiver(ADDRESS) as left:
+            self.left = port_of(left)
+            target, session = self.client.play(self.client.url(QUERIES[0]), over_udp(self.left))
+            time.sleep(0.3)
+            self.client.tear_down(target, session)
+        with receiver(ADDRESS) as closed:
+            self.closed = port_of(closed)
+        self.refused = server.client()
+        self.refused.play(self.target, over_udp(self.closed))
+        self.stopped = threading.Event()
+        self.thread = threading.Thread(target=self.receive, daemon=True)
+        self.thread.start()
+
+    def receive(self):
+        while not self.stopped.is_set():
+            self.receivers.read_for(0.2)
+
+    def leave(self):
+        self.stopped.set()
+        self.thread.join()
+        self.client.tear_down(self.target, *self.sessions)
+        self.client.close()
+        self.refused.close()
+
+
+def check_status(checks, server, play):
+    begun, before, counted = time.monotonic(), play.receivers.payload, play.reader.count
+    ran = ctl("status", "--json", "--status-file", server.path("status"), server.config)
+    took = time.monotonic() - begun
+    checks.check(ran.returncode == 0, f"satipctl status --json {ran.stderr.strip()}")
+    told = json.loads(ran.stdout)
+    viewers = {it["address"]: it for it in told["viewers"]}
+    for port in play.ports:
+        rate = viewers[f"{ADDRESS}:{port}"]["rate"]
+        checks.check(is_near(rate, RTP_RATE), f"a viewer by RTP gets {rate / 1e6:.3f} Mbit/s")
+    own = (play.receivers.payload - before) * 8 / took / 2
+    checks.check(is_near(own, RATE), f"by its own count {own / 1e6:.3f} Mbit/s without headers")
+    rate = viewers[play.reader.address()]["rate"]
+    checks.check(is_near(rate, RATE), f"a viewer by HTTP gets {rate / 1e6:.3f} Mbit/s")
+    own = (play.reader.count - counted) * 8 / took
+    checks.check(is_near(own, RATE), f"by its own count {own / 1e6:.3f} Mbit/s")
+    checks.check(f"{ADDRESS}:{play.left}" not in viewers, "the one that left isn't there")
+    lost = viewers.get(f"{ADDRESS}:{play.closed}", {"refused": 0})["refused"]
+    checks.check(lost > 100, f"{lost} datagrams of the one without a port are refused")
+    others = sum(viewers[f"{ADDRESS}:{it}"]["refused"] for it in play.ports)
+    checks.check(others == 0, "none of the others")
+    fronts = [it for it in told["front_ends"] if it["rate"]]
+    near = len(fronts) == 2 and all(is_near(it["rate"], RATE) for it in fronts)
+    checks.check(near, f"front ends read {[it['rate'] / 1e6 for it in fronts]} Mbit/s")
+    streams = [(it["tuning"].split()[0], it["plays"]) for it in told["streams"] or ()]
+    checks.check(len(streams) == 2 and all(it[1] for it in streams), f"streams: {streams}")
+    kinds = sorted(it["kind"] for it in told["viewers"])
+    # That of DESCRIBE is open too.
+    checks.check(told["open"] in (3, 4), f"{told['open']} connections are open, viewers are {kinds}")
+
+
+def check_metrics(checks, server, play):
+    ran = ctl("metrics", "--status-file", server.path("status"), server.config)
+    checks.check(ran.returncode == 0, f"satipctl metrics {ran.stderr.strip()}")
+    words = ("promtool", "check", "metrics")
+    said = subprocess.run(words, input=ran.stdout, capture_output=True, text=True, check=False)
+    checks.check((said.returncode, said.stderr) == (0, ""), f"promtool finds nothing {said.stderr}")
+    found = re.findall(r"satip_datagrams_refused_total\{.*:%d\"\} (\S+)" % play.closed, ran.stdout)
+    checks.check(sum(map(float, found)) > 100, f"datagrams refused: {found}")
+    checks.check('satip_streams{state="playing"} 2.0' in ran.stdout, "two streams play")
+
+
+def check_page(checks, server, picture):
+    port = free_ports(ADDRESS)[0]
+    words = [SATIPCTL, "page", "--listen", f"{ADDRESS}:{port}", "--status-file", server.path("status")]
+    page = subprocess.Popen([*words, server.config], stdout=subprocess.PIPE, text=True)
+    try:
+        url = page.stdout.readline().strip()
+        time.sleep(4)
+        with urllib.request.urlopen(f"{url}status.json", timeout=5) as answer:
+            told = json.load(answer)
+        rates = [it["rate"] for it in told["viewers"] if is_near(it["rate"], RATE * 1.005)]
+        checks.check(len(rates) == 3, f"{url} has three viewers of the rate")
+        checks.check(all(it["minute"] for it in told["viewers"]), "each has its minute")
+        if not shutil.which("chromium"):
+            print("     chromium isn't installed, so the page isn't drawn")
+            return
+        words = ["chromium", "--headless", "--no-sandbox", "--hide-scrollbars", "--window-size=1200,860"]
+        words += ["--virtual-time-budget=3000", f"--screenshot={picture}", url]
+        dom = ["chromium", "--headless", "--no-sandbox", "--virtual-time-budget=3000", "--dump-dom", url]
+        subprocess.run(words, stderr=subprocess.DEVNULL, timeout=60, check=True)
+        shown = subprocess.run(dom, capture_output=True, text=True, timeout=60, check=True).stdout
+        checks.check(os.path.getsize(picture) > 10000, f"Chromium draws it: {picture}")
+        rows = shown.count("<tr tabindex")
+        checks.check(shown.count("Mbit/s</td>") >= 5 and rows >= 6, f"it shows {rows} lines")
+    finally:
+        page.kill()
+        page.wait()
+        page.stdout.close()
+
+
+def check_stop(checks, server, play):
+    files = ["--stop-file", server.path("stop"), "--status-file", server.path("status")]
+    words = [SATIPCTL, "stop", *files, "--pid", str(server.process.pid), server.config]
+    stop = subprocess.Popen(words, stdout=subprocess.PIPE, stderr=subprocess.STDOUT, text=True)
+    time.sleep(2.5)
+    checks.check(server.lives() and server.options(1) is None, "asked to end, it takes no one more")
+    before = play.reader.count
+    time.sleep(1)
+    rate = (play.reader.count - before) * 8
+    checks.check(abs(rate / RATE - 1) < 0.15, f"a viewer goes on at {rate / 1e6:.2f} Mbit/s")
+    play.leave()
+    begun = time.monotonic()
+    play.reader.line.shutdown(2)
+    status = server.status(5)
+    took = time.monotonic() - begun
+    checks.check(status == 0, f"it ends with {status} {seconds(took)} after the last viewer left")
+    said = stop.communicate(timeout=10)[0].splitlines()
+    checks.check(stop.returncode == 0, f"satipctl stop ends with {stop.returncode}: {said}")
+    counts = [int(it.split()[0]) for it in said if " connections" in it]
+    checks.check(counts[:1] == [3] and said[-1:] == ["ended"], f"it showed who was there: {counts}")
+    checks.check(not os.path.exists(server.path("stop")), "the stop file is removed")
+
+
+def main():
+    words = argparse.ArgumentParser(description="Compares what satipctl says with what clients did.")
+    words.add_argument("--keep", metavar="PICTURE")
+    given = words.parse_args()
+    checks = Checks()
+    names = ("SATIP_STATUS=FOLDER/status", "SATIP_STOP=FOLDER/stop", "SATIP_REPEAT=1")
+    with tempfile.TemporaryDirectory(prefix="satip-") as folder:
+        picture = os.path.abspath(given.keep or f"{folder}/page.png")
+        with Server(ADDRESS, fronts=2, files=("a.ts", "b.ts"), before=("env", *names)) as server:
+            play = Play(server)
+            time.sleep(2)
+            check_status(checks, server, play)
+            check_metrics(checks, server, play)
+            check_page(checks, server, picture)
+            check_stop(checks, server, play)
+            print(server.said())
+    checks.end()
+
+
+if __name__ == "__main__":
+    main()
