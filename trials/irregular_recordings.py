@@ -23,7 +23,7 @@ import time
 sys.dont_write_bytecode = True
 from lib.checks import Checks
 from lib.rtsp import options
-from lib.server import PLAIN_PACKET, QUERIES, configuration, free_ports, program_words
+from lib.server import QUERIES, configuration, free_ports, plain_packets, program_words
 
 ADDRESS = "127.0.23.6"
 IRREGULAR = ("missing.ts", "fifo.ts", "folder.ts", "/dev/zero", "/dev/null", "socket.ts", "link.ts")
@@ -37,7 +37,7 @@ def make_files(folder):
         sock.bind(os.path.join(folder, "socket.ts"))
     os.symlink("fifo.ts", os.path.join(folder, "link.ts"))
     with open(os.path.join(folder, "a.ts"), "wb") as file:
-        file.write(PLAIN_PACKET * 32000)
+        file.write(plain_packets(32000))
     os.symlink("a.ts", os.path.join(folder, "same.ts"))
 
 
