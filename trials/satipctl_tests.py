@@ -18,6 +18,7 @@ import json
 import os
 import random
 import re
+import signal
 import socket
 import subprocess
 import sys
@@ -28,7 +29,7 @@ import unittest
 sys.dont_write_bytecode = True
 TOP = os.path.dirname(os.path.dirname(os.path.abspath(__file__)))
 sys.path[:0] = [TOP]
-from lib.server import program
+from lib.server import QUERIES, Server, program
 from satipctl import command, configuration, packets, status_file, watch
 
 GOOD = """\
@@ -521,6 +522,76 @@ class Stop(InAFolder):
     def test_seconds_that_a_server_would_not_take(self):
         for after in ("-1", "86401", "x", "1.5"):
             self.assertEqual(self.run_words("stop", "--after", after)[0], 2)
+
+
+class Asked(InAFolder):
+    """probe, wait and hold ask a running server."""
+
+    def server(self, **words):
+        if not os.path.exists(program()):
+            self.skipTest(f"no program {program()}")
+        server = self.enterContext(Server("127.0.0.1", files=("a.ts", "b.ts"), **words))
+        return server, f"127.0.0.1:{server.ports[0]}"
+
+    def test_probe_of_a_server_that_is_well(self):
+        server, name = self.server()
+        status, out, _ = self.run_words("probe", name)
+        self.assertEqual(status, 0)
+        self.assertRegex(out, r"^SATIP OK - OPTIONS answered in .* s \| options=")
+        for where in (name, server.config):
+            status, out, _ = self.run_words("probe", where, f"{QUERIES[0]}&pids=all")
+            self.assertEqual(status, 0, out)
+            count = int(re.search(r"packets=(\d+)", out).group(1))
+            # A datagram has seven packets at most.
+            self.assertTrue(100 <= count < 200, out)
+            self.assertIn("missing=0", out)
+        self.assertEqual(self.run_words("wait", server.config)[0], 0)
+
+    def test_probe_inside_the_connection(self):
+        _, name = self.server(command="tunnel")
+        status, out, _ = self.run_words("probe", name, f"{QUERIES[0]}&pids=all")
+        self.assertEqual(status, 0, out)
+        self.assertIn("missing=0", out)
+
+    def test_a_full_server_is_no_dead_one(self):
+        server, name = self.server(fronts=1)
+        line = server.read(QUERIES[0])
+        self.addCleanup(line.close)
+        line.recv(1000)
+        status, out, _ = self.run_words("probe", name, f"{QUERIES[1]}&pids=all")
+        self.assertEqual(status, 1, out)
+        self.assertIn("SATIP WARNING - refused: SETUP: RTSP/1.0 503", out)
+
+    def test_what_is_not_well(self):
+        server, name = self.server(fronts=1)
+        status, out, _ = self.run_words("probe", name, "freq=x")
+        self.assertEqual(status, 2)
+        self.assertIn("SATIP CRITICAL - refused: SETUP: RTSP/1.0 400", out)
+        other = QUERIES[0].replace("11361.75", "10000")
+        status, out, _ = self.run_words("probe", "--limit", "1", name, f"{other}&pids=all")
+        self.assertEqual(status, 2)
+        self.assertIn("0 of 100 packets", out)
+        server.close()
+        status, out, _ = self.run_words("probe", name)
+        self.assertEqual(status, 2)
+        self.assertIn("SATIP CRITICAL - no answer to OPTIONS", out)
+        status, _, errors = self.run_words("wait", "--limit", "0.5", name)
+        self.assertEqual(status, 1)
+        self.assertIn("not ready within 0.5 s", errors)
+
+    def test_hold_keeps_a_stream(self):
+        _, name = self.server(command="tunnel")
+        words = [os.path.join(TOP, "bin", "satipctl"), "hold", name, f"{QUERIES[0]}&pids=all"]
+        hold = subprocess.Popen(words, stdout=subprocess.PIPE, text=True)
+        self.addCleanup(hold.wait)
+        self.addCleanup(hold.kill)
+        self.addCleanup(hold.stdout.close)
+        self.assertEqual(hold.stdout.readline(), f"rtsp://{name}/stream=1\n")
+        server = name.split(":")[0], int(name.split(":")[1])
+        self.assertEqual([it.number for it in watch.describe(server)], [1])
+        hold.send_signal(signal.SIGINT)
+        self.assertEqual(hold.wait(5), 0)
+        self.assertEqual(watch.describe(server), [])
 
 
 class Completion(unittest.TestCase):
