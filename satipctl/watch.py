@@ -85,6 +85,14 @@ def is_report_port(address, all_addresses):
     return int(port) % 2 == 1 and f"{host}:{int(port) - 1}" in all_addresses
 
 
+def union(streams):
+    """The PIDs that at least one of the streams has, as a text."""
+    told = {pid for it in streams for pid in it.pids.split(",")} - {"none"}
+    if "all" in told:
+        return "all"
+    return ",".join(sorted(told, key=int)) or "none"
+
+
 class Reading:
     """A status and the one before it, whose differences are what happened meanwhile."""
 
@@ -116,14 +124,13 @@ class Reading:
 
     def fronts(self):
         old = {it.number: it.packets for it in self.before.front_ends}
-        streams = {it.front_end: it for it in self.streams or ()}
         for it in self.now.front_ends:
-            stream = streams.get(it.number)
+            own = [stream for stream in self.streams or () if stream.front_end == it.number]
             packets = max(it.packets - old.get(it.number, 0), 0)
             rate = packets * PACKET_BITS / self.seconds if self.seconds > 0 else 0.0
             yield Front(
-                it.number, it.file, stream and stream.tuning, stream and stream.pids, rate,
-                it.packets, it.restarts, it.behind,
+                it.number, it.file, own[0].tuning if own else None, union(own) if own else None,
+                rate, it.packets, it.restarts, it.behind,
             )
 
     def lost(self):

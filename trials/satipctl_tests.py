@@ -442,6 +442,12 @@ class Watched(InAFolder):
         self.assertEqual(first, watch.Stream(1, 1, told, "0,16,17", True))
         self.assertEqual(second, watch.Stream(2, 0, "untuned", "none", False))
 
+    def test_a_front_end_has_the_pids_of_its_streams(self):
+        told = [watch.Stream(1, 1, "", pids, True) for pids in ("0,16,100", "none", "0,9")]
+        self.assertEqual(watch.union(told), "0,9,16,100")
+        self.assertEqual(watch.union(told[1:2]), "none")
+        self.assertEqual(watch.union([*told, watch.Stream(4, 1, "", "all", True)]), "all")
+
     def test_metrics(self):
         status, out, _ = self.run_words("metrics", *self.words)
         self.assertEqual(status, 0)
