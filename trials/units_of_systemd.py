@@ -174,7 +174,7 @@ class Trial:
         well, took = self.start("satip@late")
         self.check(not well, f"systemctl start fails after {seconds(took)}")
         said = self.system.says("journalctl", "--no-pager", "-o", "cat", "-u", "satip@late")
-        line = "late.toml:14: fault: recording of mux.1, /srv/none.ts: No such file or directory"
+        line = "late.toml:15: fault: recording of mux.1, /srv/none.ts: No such file or directory"
         self.check(line in said, f"the journal of the system has the line: {line}")
         shutil.copy(f"{self.root}/srv/a.ts", f"{self.root}/srv/none.ts")
         took = self.system.wait_until_active(unit="satip@late")
