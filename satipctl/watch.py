@@ -5,7 +5,7 @@ import re
 import time
 from dataclasses import asdict, dataclass
 
-from . import place, status_file
+from . import configuration, place, status_file, system
 from .client import Rtsp, server_of
 from .command import Fault
 
@@ -30,13 +30,14 @@ class Stream:
 
 @dataclass
 class Viewer:
-    """Who gets packets: a destination of RTP or a connection. Rates are in bit/s."""
+    """Who gets packets: a destination of RTP or a connection. Rates are in bit/s; what the system
+    alone doesn't tell is None."""
 
     address: str
     kind: str
     age: float | None
-    rate: float
-    bytes: int
+    rate: float | None
+    bytes: int | None
     refused: int
 
 
@@ -109,6 +110,10 @@ class Reading:
         old = {it.address: it.bytes for it in self.before.destinations}
         addresses = {it.address for it in self.now.destinations}
         for it in self.now.destinations:
+            if it.bytes is None:
+                if not is_report_port(it.address, addresses):
+                    yield Viewer(it.address, "RTP", None, None, None, 0)
+                continue
             lost, rate = sum(it.refused.values()), self.rate(it.bytes, old.get(it.address, 0))
             lost_before = sum(
                 sum(other.refused.values())
@@ -152,7 +157,7 @@ class Reading:
             "refused_connections": now.refused,
             "refused_datagrams": self.lost(),
             "lines": now.lines,
-            "rate": sum(it.rate for it in viewers),
+            "rate": sum(it.rate or 0 for it in viewers),
             "front_ends": [asdict(it) for it in self.fronts()],
             "streams": None if self.streams is None else [asdict(it) for it in self.streams],
             "viewers": [asdict(it) for it in viewers],
@@ -160,20 +165,28 @@ class Reading:
 
 
 class Watch:
-    """Reads a server's status again and again."""
+    """Reads a server's status again and again: from its status file or, if `or_system` is set and
+    there is none, from the system."""
 
-    def __init__(self, given):
+    def __init__(self, given, or_system=False):
         self.path = place.status_file(given)
-        self.server = None
-        if not given.no_describe and os.path.exists(given.config):
-            self.server = server_of(os.path.join(".", given.config))
-        self.last = status_file.read(self.path)
-        self.is_first = True
+        self.server = self.own = None
+        if os.path.exists(given.config):
+            if or_system and not os.path.exists(self.path):
+                self.own = configuration.read(given.config).server()[1:]
+            if not given.no_describe:
+                self.server = server_of(os.path.join(".", given.config))
+        self.last = self.read()
+
+    def read(self):
+        return system.read(*self.own) if self.own else status_file.read(self.path)
 
     def next(self):
         """The next reading: waits until the server has written another status."""
+        if self.own:
+            time.sleep(PERIOD)
         until = time.monotonic() + PATIENCE
-        while (now := status_file.read(self.path)).uptime == self.last.uptime:
+        while (now := self.read()).uptime == self.last.uptime:
             if time.monotonic() > until:
                 raise Fault(f"{self.path}: not written for {PATIENCE:g} s; has the server ended?", 1)
             time.sleep(PERIOD / 10)
@@ -183,10 +196,14 @@ class Watch:
 
 
 def rate_text(rate):
+    if rate is None:
+        return ""
     return f"{rate / 1e6:.2f} Mbit/s" if rate >= 1e5 else f"{rate / 1e3:.1f} kbit/s"
 
 
 def bytes_text(count):
+    if count is None:
+        return ""
     for unit in ("B", "kB", "MB", "GB"):
         if count < 1000:
             return f"{count:.0f} {unit}" if unit == "B" else f"{count:.1f} {unit}"

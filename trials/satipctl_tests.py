@@ -29,6 +29,8 @@ import unittest
 sys.dont_write_bytecode = True
 TOP = os.path.dirname(os.path.dirname(os.path.abspath(__file__)))
 sys.path[:0] = [TOP]
+from lib.rtp import receiver
+from lib.rtsp import over_udp
 from lib.server import QUERIES, Server, program
 from satipctl import command, configuration, packets, status_file, watch
 
@@ -584,6 +586,35 @@ class Asked(InAFolder):
         status, _, errors = self.run_words("wait", "--limit", "0.5", name)
         self.assertEqual(status, 1)
         self.assertIn("not ready within 0.5 s", errors)
+
+    def test_status_without_a_status_file(self):
+        if os.geteuid() != 0:
+            self.skipTest("root alone sees whose sockets they are")
+        server, _ = self.server(fronts=1)
+        line = server.read(QUERIES[0])
+        self.addCleanup(line.close)
+        done = threading.Event()
+        reader = threading.Thread(target=lambda: [line.recv(1 << 20) for _ in iter(done.is_set, True)])
+        reader.start()
+        self.addCleanup(reader.join)
+        self.addCleanup(done.set)
+        with contextlib.closing(server.client()) as client, receiver("127.0.0.1") as sock:
+            port = sock.getsockname()[1]
+            client.play(client.url(QUERIES[0]), over_udp(port))
+            words = ["--status-file", self.path("none"), server.config]
+            status, out, errors = self.run_words("status", "--json", *words)
+            text = self.run_words("status", *words)[1]
+        self.assertEqual((status, errors), (0, ""))
+        told = json.loads(out)
+        kinds = {it["address"]: (it["kind"], it["rate"]) for it in told["viewers"]}
+        self.assertEqual(kinds[f"127.0.0.1:{port}"], ("RTP", None))
+        kind, rate = kinds["%s:%d" % line.getsockname()]
+        self.assertEqual(kind, "HTTP")
+        # 64 packets each 20 ms.
+        self.assertAlmostEqual(rate / 4_812_800, 1, delta=0.2)
+        self.assertEqual(told["open"], 2)
+        self.assertEqual([(it["pids"], it["plays"]) for it in told["streams"]], [("all", True)] * 2)
+        self.assertIn("no status file, so this is what the system knows; connections 2", text)
 
     def test_hold_keeps_a_stream(self):
         _, name = self.server(command="tunnel")
