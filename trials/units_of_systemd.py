@@ -70,7 +70,8 @@ class Trial:
         return subprocess.Popen(words, stdout=subprocess.PIPE, text=True)
 
     def stays(self, unit, state, length=4):
-        """Whether a unit is in a state for some seconds."""
+        """Whether a unit comes to a state, and is in it for some seconds."""
+        self.system.wait_until(lambda: self.system.service("ActiveState", unit) == state, limit=3)
         until = time.monotonic() + length
         while time.monotonic() < until:
             if self.system.service("ActiveState", unit) != state:
