@@ -6,7 +6,7 @@ CONFIG: /run/satip/status for satip.toml, /run/satip-NAME/status for NAME.toml. 
 destination of datagrams; it has no age, as its session isn't in the file.
 
 If there is no such file it shows what the system knows of the server of CONFIG, by ss: connections
-with their rates and, for root, destinations.
+with their rates and, for root, the last 128 destinations, without theirs.
 
 The status is 0, 1 if the file isn't written any more, and 2 if it can't be read.
 """
@@ -26,7 +26,7 @@ def add_words(words):
 
 
 def run(given):
-    seen = watch.Watch(given, or_system=True)
+    seen = watch.Watch(given)
     if given.json:
         return in_lines(given, seen, lambda reading: json.dumps(reading.to_json()))
     if not given.watch:
@@ -91,6 +91,8 @@ def head(reading, viewers):
     now = reading.now
     if now.version is None:
         yield f"no status file, so this is what the system knows; connections {len(now.connections)}"
+        if reading.uncounted():
+            yield f"destinations of RTP, also some that left: {', '.join(reading.uncounted())}"
         return
     rate = rate_text(sum(it.rate for it in viewers))
     yield f"satip {now.version}, up {age_text(now.uptime)}, since {now.start}"

@@ -44,6 +44,8 @@ def processes(fields):
 def destinations(port):
     """The connected sockets of UDP of the process that listens at a port of TCP."""
     listening = [processes(more) for _, _, _, _, *more in ask("-tlp", f"sport = :{port}")]
+    if not listening:
+        raise Fault(f"nothing listens at port {port}, and there is no status file", 1)
     servers = set().union(*listening)
     for _, _, _, other, *more in ask("-up", "state", "established"):
         if servers & processes(more):

@@ -30,14 +30,14 @@ class Stream:
 
 @dataclass
 class Viewer:
-    """Who gets packets: a destination of RTP or a connection. Rates are in bit/s; what the system
-    alone doesn't tell is None."""
+    """Who gets packets: a destination of RTP or a connection. Rates are in bit/s; an age that isn't
+    known is None."""
 
     address: str
     kind: str
     age: float | None
-    rate: float | None
-    bytes: int | None
+    rate: float
+    bytes: int
     refused: int
 
 
@@ -111,8 +111,6 @@ class Reading:
         addresses = {it.address for it in self.now.destinations}
         for it in self.now.destinations:
             if it.bytes is None:
-                if not is_report_port(it.address, addresses):
-                    yield Viewer(it.address, "RTP", None, None, None, 0)
                 continue
             lost, rate = sum(it.refused.values()), self.rate(it.bytes, old.get(it.address, 0))
             lost_before = sum(
@@ -126,6 +124,11 @@ class Reading:
         for it in self.now.connections:
             rate = self.rate(it.sent, sent.get(it.address, 0))
             yield Viewer(it.address, it.kind.upper(), it.age, rate, it.sent, 0)
+
+    def uncounted(self):
+        """Destinations of which the system tells no counts, so some may have left."""
+        addresses = {it.address for it in self.now.destinations if it.bytes is None}
+        return sorted(it for it in addresses if not is_report_port(it, addresses))
 
     def fronts(self):
         old = {it.number: it.packets for it in self.before.front_ends}
@@ -157,38 +160,40 @@ class Reading:
             "refused_connections": now.refused,
             "refused_datagrams": self.lost(),
             "lines": now.lines,
-            "rate": sum(it.rate or 0 for it in viewers),
+            "rate": sum(it.rate for it in viewers),
+            "uncounted": self.uncounted(),
             "front_ends": [asdict(it) for it in self.fronts()],
             "streams": None if self.streams is None else [asdict(it) for it in self.streams],
             "viewers": [asdict(it) for it in viewers],
         }
 
 
+def read(given):
+    """The status of a server: from its status file or, if there is none, from the system."""
+    path = place.status_file(given)
+    if os.path.exists(path) or not os.path.exists(given.config):
+        return status_file.read(path)
+    return system.read(*configuration.read(given.config).server()[1:])
+
+
 class Watch:
-    """Reads a server's status again and again: from its status file or, if `or_system` is set and
-    there is none, from the system."""
+    """Reads a server's status again and again."""
 
-    def __init__(self, given, or_system=False):
-        self.path = place.status_file(given)
-        self.server = self.own = None
-        if os.path.exists(given.config):
-            if or_system and not os.path.exists(self.path):
-                self.own = configuration.read(given.config).server()[1:]
-            if not given.no_describe:
-                self.server = server_of(os.path.join(".", given.config))
-        self.last = self.read()
-
-    def read(self):
-        return system.read(*self.own) if self.own else status_file.read(self.path)
+    def __init__(self, given):
+        self.given, self.server = given, None
+        if not given.no_describe and os.path.exists(given.config):
+            self.server = server_of(os.path.join(".", given.config))
+        self.last = read(given)
 
     def next(self):
         """The next reading: waits until the server has written another status."""
-        if self.own:
+        if self.last.version is None:
             time.sleep(PERIOD)
         until = time.monotonic() + PATIENCE
-        while (now := self.read()).uptime == self.last.uptime:
+        while (now := read(self.given)).uptime == self.last.uptime:
             if time.monotonic() > until:
-                raise Fault(f"{self.path}: not written for {PATIENCE:g} s; has the server ended?", 1)
+                path = place.status_file(self.given)
+                raise Fault(f"{path}: not written for {PATIENCE:g} s; has the server ended?", 1)
             time.sleep(PERIOD / 10)
         before = self.last if now.start == self.last.start else now
         self.last = now
@@ -196,14 +201,10 @@ class Watch:
 
 
 def rate_text(rate):
-    if rate is None:
-        return ""
     return f"{rate / 1e6:.2f} Mbit/s" if rate >= 1e5 else f"{rate / 1e3:.1f} kbit/s"
 
 
 def bytes_text(count):
-    if count is None:
-        return ""
     for unit in ("B", "kB", "MB", "GB"):
         if count < 1000:
             return f"{count:.0f} {unit}" if unit == "B" else f"{count:.1f} {unit}"

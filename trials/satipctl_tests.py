@@ -604,10 +604,11 @@ class Asked(InAFolder):
             words = ["--status-file", self.path("none"), server.config]
             status, out, errors = self.run_words("status", "--json", *words)
             text = self.run_words("status", *words)[1]
+            measured = self.run_words("metrics", *words)[1]
         self.assertEqual((status, errors), (0, ""))
         told = json.loads(out)
         kinds = {it["address"]: (it["kind"], it["rate"]) for it in told["viewers"]}
-        self.assertEqual(kinds[f"127.0.0.1:{port}"], ("RTP", None))
+        self.assertEqual(told["uncounted"], [f"127.0.0.1:{port}"])
         kind, rate = kinds["%s:%d" % line.getsockname()]
         self.assertEqual(kind, "HTTP")
         # 64 packets each 20 ms.
@@ -615,6 +616,16 @@ class Asked(InAFolder):
         self.assertEqual(told["open"], 2)
         self.assertEqual([(it["pids"], it["plays"]) for it in told["streams"]], [("all", True)] * 2)
         self.assertIn("no status file, so this is what the system knows; connections 2", text)
+        self.assertIn(f"destinations of RTP, also some that left: 127.0.0.1:{port}", text)
+        self.assertIn("satip_connections 2.0", measured)
+        self.assertRegex(measured, r'satip_connection_sent_bytes_total\{client=".*",kind="http"\} [1-9]')
+        self.assertIn('satip_streams{state="playing"} 2.0', measured)
+        server.process.kill()
+        server.process.wait()
+        status, _, errors = self.run_words("status", *words)
+        self.assertEqual(status, 1)
+        self.assertIn("nothing listens at port", errors)
+        self.assertIn("satip_up 0.0", self.run_words("metrics", *words)[1])
 
     def test_hold_keeps_a_stream(self):
         _, name = self.server(command="tunnel")
