@@ -20,8 +20,8 @@ def add_words(words):
 def run(given):
     with Rtsp(*given.server) as client:
         target, session = client.set_up(f"{client.base}?{given.query}", inside())
-        print(target, flush=True)
         try:
+            print(target, flush=True)
             while True:
                 time.sleep(PERIOD)
                 client.ask("OPTIONS", client.base, f"Session: {session}")

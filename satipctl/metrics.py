@@ -2,14 +2,14 @@
 
 Without a word it prints the metrics once. With --listen it serves them to Prometheus; with
 --textfile it writes them every 15 seconds to a file of node_exporter's textfile collector, which
-is replaced as a whole. The status file is found as by `satipctl status`. If it can't be read,
-satip_up is 0, and the other metrics are left out.
+is replaced as a whole. The status file is found as by `satipctl status`, and what the system knows
+is taken if there is none. Metrics that aren't known are left out; satip_up is 0 if all are.
 """
 
 import os
 import time
 
-from . import place, status_file, watch
+from . import watch
 from .client import server_of
 from .command import Fault, library
 
@@ -46,18 +46,20 @@ class Collector:
     """Reads the status when Prometheus asks."""
 
     def __init__(self, given):
-        self.path = place.status_file(given)
+        self.given = given
         self.server = None if given.no_describe else given.config
         self.core = library("prometheus_client.core", "python3-prometheus-client")
 
     def collect(self):
         try:
-            status = status_file.read(self.path)
+            status = watch.read(self.given)
         except Fault:
-            yield self.gauge("up", "Whether the status file of the server can be read.", 0)
+            yield self.gauge("up", "Whether there is a server.", 0)
             return
-        yield self.gauge("up", "Whether the status file of the server can be read.", 1)
-        yield from self.totals(status)
+        yield self.gauge("up", "Whether there is a server.", 1)
+        yield self.gauge("connections", "Connections that are open.", len(status.connections))
+        if status.version is not None:
+            yield from self.totals(status)
         yield from self.of_connections(status)
         yield from self.of_destinations(status)
         yield from self.of_front_ends(status)
@@ -74,7 +76,6 @@ class Collector:
         info.add_metric((), {"version": status.version})
         yield info
         yield self.gauge("uptime_seconds", "Seconds since the start.", status.uptime)
-        yield self.gauge("connections", "Connections that are open.", len(status.connections))
         yield self.counter("connections_accepted", "Connections that were accepted.", status.taken)
         yield self.by_cause("connections_refused", "Connections that were refused.", status.refused)
         yield self.counter("lines", "Lines on standard error.", status.lines)
@@ -101,6 +102,8 @@ class Collector:
         told = "Datagrams that the system refused."
         refused = self.counter("datagrams_refused", told, labels=(*labels, "cause"))
         for it in status.destinations:
+            if it.bytes is None:
+                continue
             count.add_metric((it.address,), it.datagrams)
             size.add_metric((it.address,), it.bytes)
             for cause, lost in it.refused.items():

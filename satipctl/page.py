@@ -3,7 +3,7 @@
 The page needs nothing from outside, and asks for new numbers once a second. Arrow keys move from
 line to line. Without --listen it is at 127.0.0.1:8880, for this machine alone; it has no login, so
 put a proxy in front of it before it listens elsewhere. The status file is found as by
-`satipctl status`.
+`satipctl status`, and what the system knows is shown if there is none.
 """
 
 import collections

@@ -5,6 +5,9 @@ file is the one that --status-file or SATIP_STATUS names, else that of the unit 
 CONFIG: /run/satip/status for satip.toml, /run/satip-NAME/status for NAME.toml. An RTP viewer is a
 destination of datagrams; it has no age, as its session isn't in the file.
 
+If there is no such file it shows what the system knows of the server of CONFIG, by ss: connections
+with their rates and, for root, the last 128 destinations, without theirs.
+
 The status is 0, 1 if the file isn't written any more, and 2 if it can't be read.
 """
 
@@ -61,18 +64,8 @@ def table(head, rows):
 
 def text(reading):
     """The lines for people."""
-    now = reading.now
     viewers = sorted(reading.viewers(), key=lambda it: (it.kind, it.address))
-    rate = rate_text(sum(it.rate for it in viewers))
-    yield f"satip {now.version}, up {age_text(now.uptime)}, since {now.start}"
-    yield f"sends {rate}; connections open {len(now.connections)}, taken {now.taken}" + counts(
-        ", refused", now.refused
-    ) + counts("; datagrams refused", reading.lost())
-    yield ""
-    yield from table(
-        ("front end", "multiplex", "PIDs", "recording", "rate", "restarts", "behind"),
-        [front_row(it) for it in reading.fronts()],
-    )
+    yield from head(reading, viewers)
     yield ""
     if reading.streams is None:
         yield "streams: the server was not asked, or didn't answer"
@@ -90,6 +83,26 @@ def text(reading):
              str(it.refused or ""))
             for it in viewers
         ],
+    )
+
+
+def head(reading, viewers):
+    """The totals and the front ends."""
+    now = reading.now
+    if now.version is None:
+        yield f"no status file, so this is what the system knows; connections {len(now.connections)}"
+        if reading.uncounted():
+            yield f"destinations of RTP, also some that left: {', '.join(reading.uncounted())}"
+        return
+    rate = rate_text(sum(it.rate for it in viewers))
+    yield f"satip {now.version}, up {age_text(now.uptime)}, since {now.start}"
+    yield f"sends {rate}; connections open {len(now.connections)}, taken {now.taken}" + counts(
+        ", refused", now.refused
+    ) + counts("; datagrams refused", reading.lost())
+    yield ""
+    yield from table(
+        ("front end", "multiplex", "PIDs", "recording", "rate", "restarts", "behind"),
+        [front_row(it) for it in reading.fronts()],
     )
 
 

@@ -11,21 +11,22 @@ from .command import Fault
 
 @dataclass
 class Destination:
-    """An address and a port of UDP; `refused` counts datagrams by their cause."""
+    """An address and a port of UDP; `refused` counts datagrams by their cause. Counts that aren't
+    known are None."""
 
     address: str
-    datagrams: int
-    bytes: int
+    datagrams: int | None
+    bytes: int | None
     refused: dict[str, int]
 
 
 @dataclass
 class Connection:
-    """A TCP connection: its kind is `rtsp` or `http`, its age in seconds."""
+    """A TCP connection: its kind is `rtsp` or `http`, its age in seconds, if it is known."""
 
     address: str
     kind: str
-    age: float
+    age: float | None
     sent: int
     received: int
 
@@ -43,12 +44,14 @@ class FrontEnd:
 
 @dataclass
 class Status:
-    version: str
-    start: str
+    """What a server did; without a status file it has no version, no start and no counts."""
+
+    version: str | None
+    start: str | None
     uptime: float
-    taken: int
+    taken: int | None
     refused: dict[str, int]
-    lines: int
+    lines: int | None
     connections: list[Connection] = field(default_factory=list)
     destinations: list[Destination] = field(default_factory=list)
     front_ends: list[FrontEnd] = field(default_factory=list)

@@ -5,7 +5,7 @@ import re
 import time
 from dataclasses import asdict, dataclass
 
-from . import place, status_file
+from . import configuration, place, status_file, system
 from .client import Rtsp, server_of
 from .command import Fault
 
@@ -30,7 +30,8 @@ class Stream:
 
 @dataclass
 class Viewer:
-    """Who gets packets: a destination of RTP or a connection. Rates are in bit/s."""
+    """Who gets packets: a destination of RTP or a connection. Rates are in bit/s; an age that isn't
+    known is None."""
 
     address: str
     kind: str
@@ -85,6 +86,14 @@ def is_report_port(address, all_addresses):
     return int(port) % 2 == 1 and f"{host}:{int(port) - 1}" in all_addresses
 
 
+def union(streams):
+    """The PIDs that at least one of the streams has, as a text."""
+    told = {pid for it in streams for pid in it.pids.split(",")} - {"none"}
+    if "all" in told:
+        return "all"
+    return ",".join(sorted(told, key=int)) or "none"
+
+
 class Reading:
     """A status and the one before it, whose differences are what happened meanwhile."""
 
@@ -101,6 +110,8 @@ class Reading:
         old = {it.address: it.bytes for it in self.before.destinations}
         addresses = {it.address for it in self.now.destinations}
         for it in self.now.destinations:
+            if it.bytes is None:
+                continue
             lost, rate = sum(it.refused.values()), self.rate(it.bytes, old.get(it.address, 0))
             lost_before = sum(
                 sum(other.refused.values())
@@ -114,16 +125,20 @@ class Reading:
             rate = self.rate(it.sent, sent.get(it.address, 0))
             yield Viewer(it.address, it.kind.upper(), it.age, rate, it.sent, 0)
 
+    def uncounted(self):
+        """Destinations of which the system tells no counts, so some may have left."""
+        addresses = {it.address for it in self.now.destinations if it.bytes is None}
+        return sorted(it for it in addresses if not is_report_port(it, addresses))
+
     def fronts(self):
         old = {it.number: it.packets for it in self.before.front_ends}
-        streams = {it.front_end: it for it in self.streams or ()}
         for it in self.now.front_ends:
-            stream = streams.get(it.number)
+            own = [stream for stream in self.streams or () if stream.front_end == it.number]
             packets = max(it.packets - old.get(it.number, 0), 0)
             rate = packets * PACKET_BITS / self.seconds if self.seconds > 0 else 0.0
             yield Front(
-                it.number, it.file, stream and stream.tuning, stream and stream.pids, rate,
-                it.packets, it.restarts, it.behind,
+                it.number, it.file, own[0].tuning if own else None, union(own) if own else None,
+                rate, it.packets, it.restarts, it.behind,
             )
 
     def lost(self):
@@ -146,29 +161,39 @@ class Reading:
             "refused_datagrams": self.lost(),
             "lines": now.lines,
             "rate": sum(it.rate for it in viewers),
+            "uncounted": self.uncounted(),
             "front_ends": [asdict(it) for it in self.fronts()],
             "streams": None if self.streams is None else [asdict(it) for it in self.streams],
             "viewers": [asdict(it) for it in viewers],
         }
 
 
+def read(given):
+    """The status of a server: from its status file or, if there is none, from the system."""
+    path = place.status_file(given)
+    if os.path.exists(path) or not os.path.exists(given.config):
+        return status_file.read(path)
+    return system.read(*configuration.read(given.config).server()[1:])
+
+
 class Watch:
     """Reads a server's status again and again."""
 
     def __init__(self, given):
-        self.path = place.status_file(given)
-        self.server = None
+        self.given, self.server = given, None
         if not given.no_describe and os.path.exists(given.config):
             self.server = server_of(os.path.join(".", given.config))
-        self.last = status_file.read(self.path)
-        self.is_first = True
+        self.last = read(given)
 
     def next(self):
         """The next reading: waits until the server has written another status."""
+        if self.last.version is None:
+            time.sleep(PERIOD)
         until = time.monotonic() + PATIENCE
-        while (now := status_file.read(self.path)).uptime == self.last.uptime:
+        while (now := read(self.given)).uptime == self.last.uptime:
             if time.monotonic() > until:
-                raise Fault(f"{self.path}: not written for {PATIENCE:g} s; has the server ended?", 1)
+                path = place.status_file(self.given)
+                raise Fault(f"{path}: not written for {PATIENCE:g} s; has the server ended?", 1)
             time.sleep(PERIOD / 10)
         before = self.last if now.start == self.last.start else now
         self.last = now

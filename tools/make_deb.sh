@@ -112,7 +112,7 @@ Architecture: $architecture
 Maintainer: $packager
 Installed-Size: $(du -k -s --apparent-size "$root" | cut -f1)
 Depends: $depends, python3 (>= 3.11), python3-jsonschema, python3-prometheus-client, python3-rich
-Recommends: ffmpeg
+Recommends: ffmpeg, iproute2
 Section: video
 Priority: optional
 Description: SAT>IP server that plays recordings

@@ -35,12 +35,12 @@ from lib.checks import Checks, seconds
 from lib.rtp import arrived, port_of, receiver_pair
 from lib.rtsp import over_udp
 from lib.server import (
-    PLAIN_PACKET,
     QUERIES,
     QUERY,
     Server,
     configuration,
     free_ports,
+    plain_packets,
     program,
 )
 
@@ -268,7 +268,7 @@ def a_rewind_fails():
     """Of recordings of 1600 packets and one more: 16 are read at once."""
     for count in (1600, 1601):
         repeats = ("env", "SATIP_REPEAT=1")
-        recording = PLAIN_PACKET * count
+        recording = plain_packets(count)
         with start(workers=4, recording=recording, before=repeats) as server:
             player = Player(server)
             what = f"the rewind of a recording of {count} packets fails"

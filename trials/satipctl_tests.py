@@ -18,6 +18,7 @@ import json
 import os
 import random
 import re
+import signal
 import socket
 import subprocess
 import sys
@@ -28,7 +29,9 @@ import unittest
 sys.dont_write_bytecode = True
 TOP = os.path.dirname(os.path.dirname(os.path.abspath(__file__)))
 sys.path[:0] = [TOP]
-from lib.server import program
+from lib.rtp import receiver
+from lib.rtsp import over_udp
+from lib.server import QUERIES, Server, program
 from satipctl import command, configuration, packets, status_file, watch
 
 GOOD = """\
@@ -441,6 +444,12 @@ class Watched(InAFolder):
         self.assertEqual(first, watch.Stream(1, 1, told, "0,16,17", True))
         self.assertEqual(second, watch.Stream(2, 0, "untuned", "none", False))
 
+    def test_a_front_end_has_the_pids_of_its_streams(self):
+        told = [watch.Stream(1, 1, "", pids, True) for pids in ("0,16,100", "none", "0,9")]
+        self.assertEqual(watch.union(told), "0,9,16,100")
+        self.assertEqual(watch.union(told[1:2]), "none")
+        self.assertEqual(watch.union([*told, watch.Stream(4, 1, "", "all", True)]), "all")
+
     def test_metrics(self):
         status, out, _ = self.run_words("metrics", *self.words)
         self.assertEqual(status, 0)
@@ -521,6 +530,116 @@ class Stop(InAFolder):
     def test_seconds_that_a_server_would_not_take(self):
         for after in ("-1", "86401", "x", "1.5"):
             self.assertEqual(self.run_words("stop", "--after", after)[0], 2)
+
+
+class Asked(InAFolder):
+    """probe, wait and hold ask a running server."""
+
+    def server(self, **words):
+        if not os.path.exists(program()):
+            self.skipTest(f"no program {program()}")
+        server = self.enterContext(Server("127.0.0.1", files=("a.ts", "b.ts"), **words))
+        return server, f"127.0.0.1:{server.ports[0]}"
+
+    def test_probe_of_a_server_that_is_well(self):
+        server, name = self.server()
+        status, out, _ = self.run_words("probe", name)
+        self.assertEqual(status, 0)
+        self.assertRegex(out, r"^SATIP OK - OPTIONS answered in .* s \| options=")
+        for where in (name, server.config):
+            status, out, _ = self.run_words("probe", where, f"{QUERIES[0]}&pids=all")
+            self.assertEqual(status, 0, out)
+            count = int(re.search(r"packets=(\d+)", out).group(1))
+            # A datagram has seven packets at most.
+            self.assertTrue(100 <= count < 200, out)
+            self.assertIn("missing=0", out)
+        self.assertEqual(self.run_words("wait", server.config)[0], 0)
+
+    def test_probe_inside_the_connection(self):
+        _, name = self.server(command="tunnel")
+        status, out, _ = self.run_words("probe", name, f"{QUERIES[0]}&pids=all")
+        self.assertEqual(status, 0, out)
+        self.assertIn("missing=0", out)
+
+    def test_a_full_server_is_no_dead_one(self):
+        server, name = self.server(fronts=1)
+        line = server.read(QUERIES[0])
+        self.addCleanup(line.close)
+        line.recv(1000)
+        status, out, _ = self.run_words("probe", name, f"{QUERIES[1]}&pids=all")
+        self.assertEqual(status, 1, out)
+        self.assertIn("SATIP WARNING - refused: SETUP: RTSP/1.0 503", out)
+
+    def test_what_is_not_well(self):
+        server, name = self.server(fronts=1)
+        status, out, _ = self.run_words("probe", name, "freq=x")
+        self.assertEqual(status, 2)
+        self.assertIn("SATIP CRITICAL - refused: SETUP: RTSP/1.0 400", out)
+        other = QUERIES[0].replace("11361.75", "10000")
+        status, out, _ = self.run_words("probe", "--limit", "1", name, f"{other}&pids=all")
+        self.assertEqual(status, 2)
+        self.assertIn("0 of 100 packets", out)
+        server.close()
+        status, out, _ = self.run_words("probe", name)
+        self.assertEqual(status, 2)
+        self.assertIn("SATIP CRITICAL - no answer to OPTIONS", out)
+        status, _, errors = self.run_words("wait", "--limit", "0.5", name)
+        self.assertEqual(status, 1)
+        self.assertIn("not ready within 0.5 s", errors)
+
+    def test_status_without_a_status_file(self):
+        if os.geteuid() != 0:
+            self.skipTest("root alone sees whose sockets they are")
+        server, _ = self.server(fronts=1)
+        line = server.read(QUERIES[0])
+        self.addCleanup(line.close)
+        done = threading.Event()
+        reader = threading.Thread(target=lambda: [line.recv(1 << 20) for _ in iter(done.is_set, True)])
+        reader.start()
+        self.addCleanup(reader.join)
+        self.addCleanup(done.set)
+        with contextlib.closing(server.client()) as client, receiver("127.0.0.1") as sock:
+            port = sock.getsockname()[1]
+            client.play(client.url(QUERIES[0]), over_udp(port))
+            words = ["--status-file", self.path("none"), server.config]
+            status, out, errors = self.run_words("status", "--json", *words)
+            text = self.run_words("status", *words)[1]
+            measured = self.run_words("metrics", *words)[1]
+        self.assertEqual((status, errors), (0, ""))
+        told = json.loads(out)
+        kinds = {it["address"]: (it["kind"], it["rate"]) for it in told["viewers"]}
+        self.assertEqual(told["uncounted"], [f"127.0.0.1:{port}"])
+        kind, rate = kinds["%s:%d" % line.getsockname()]
+        self.assertEqual(kind, "HTTP")
+        # 64 packets each 20 ms.
+        self.assertAlmostEqual(rate / 4_812_800, 1, delta=0.2)
+        self.assertEqual(told["open"], 2)
+        self.assertEqual([(it["pids"], it["plays"]) for it in told["streams"]], [("all", True)] * 2)
+        self.assertIn("no status file, so this is what the system knows; connections 2", text)
+        self.assertIn(f"destinations of RTP, also some that left: 127.0.0.1:{port}", text)
+        self.assertIn("satip_connections 2.0", measured)
+        self.assertRegex(measured, r'satip_connection_sent_bytes_total\{client=".*",kind="http"\} [1-9]')
+        self.assertIn('satip_streams{state="playing"} 2.0', measured)
+        server.process.kill()
+        server.process.wait()
+        status, _, errors = self.run_words("status", *words)
+        self.assertEqual(status, 1)
+        self.assertIn("nothing listens at port", errors)
+        self.assertIn("satip_up 0.0", self.run_words("metrics", *words)[1])
+
+    def test_hold_keeps_a_stream(self):
+        _, name = self.server(command="tunnel")
+        words = [os.path.join(TOP, "bin", "satipctl"), "hold", name, f"{QUERIES[0]}&pids=all"]
+        hold = subprocess.Popen(words, stdout=subprocess.PIPE, text=True)
+        self.addCleanup(hold.wait)
+        self.addCleanup(hold.kill)
+        self.addCleanup(hold.stdout.close)
+        self.assertEqual(hold.stdout.readline(), f"rtsp://{name}/stream=1\n")
+        server = name.split(":")[0], int(name.split(":")[1])
+        self.assertEqual([it.number for it in watch.describe(server)], [1])
+        hold.send_signal(signal.SIGINT)
+        self.assertEqual(hold.wait(5), 0)
+        self.assertEqual(watch.describe(server), [])
 
 
 class Completion(unittest.TestCase):

@@ -70,7 +70,8 @@ class Trial:
         return subprocess.Popen(words, stdout=subprocess.PIPE, text=True)
 
     def stays(self, unit, state, length=4):
-        """Whether a unit is in a state for some seconds."""
+        """Whether a unit comes to a state, and is in it for some seconds."""
+        self.system.wait_until(lambda: self.system.service("ActiveState", unit) == state, limit=3)
         until = time.monotonic() + length
         while time.monotonic() < until:
             if self.system.service("ActiveState", unit) != state:
@@ -174,7 +175,7 @@ class Trial:
         well, took = self.start("satip@late")
         self.check(not well, f"systemctl start fails after {seconds(took)}")
         said = self.system.says("journalctl", "--no-pager", "-o", "cat", "-u", "satip@late")
-        line = "late.toml:14: fault: recording of mux.1, /srv/none.ts: No such file or directory"
+        line = "late.toml:15: fault: recording of mux.1, /srv/none.ts: No such file or directory"
         self.check(line in said, f"the journal of the system has the line: {line}")
         shutil.copy(f"{self.root}/srv/a.ts", f"{self.root}/srv/none.ts")
         took = self.system.wait_until_active(unit="satip@late")

@@ -5,13 +5,15 @@
 
 A server with SATIP_STATUS and SATIP_STOP has three viewers: two over UDP, one over HTTP. One more has
 left, and the datagrams of another are refused, since nobody listens at its port. What satipctl says
-of each is compared with what the viewers counted meanwhile; a rate may differ by 5 %. The page is
-drawn by Chromium, if it is installed, and kept in PICTURE. Then the server is asked to end: it ends
-with status 0 when the last viewer has left.
+of each is compared with what the viewers counted meanwhile; a rate may differ by 5 %, a count by 10 %.
+A server that writes no status file is shown by what the system knows: the viewer by HTTP, all
+destinations and the streams. The page is drawn by Chromium, if it is installed, and kept in PICTURE.
+Then the server is asked to end: it ends with status 0 when the last viewer has left.
 
 Needs the built program (trials/lib/server.py).
 
-Packages: prometheus python3-prometheus-client
+Packages: iproute2 prometheus python3-prometheus-client
+Rights: root
 """
 
 import argparse
@@ -43,8 +45,12 @@ def ctl(*words):
     return subprocess.run((SATIPCTL, *words), capture_output=True, text=True, check=False)
 
 
-def is_near(rate, expected):
-    return abs(rate / expected - 1) < 0.05
+def is_told(server):
+    return os.path.exists(server.path("status"))
+
+
+def is_near(rate, expected, part=0.05):
+    return abs(rate / expected - 1) < part
 
 
 class Reader:
@@ -107,15 +113,29 @@ def check_status(checks, server, play):
     checks.check(ran.returncode == 0, f"satipctl status --json {ran.stderr.strip()}")
     told = json.loads(ran.stdout)
     viewers = {it["address"]: it for it in told["viewers"]}
-    for port in play.ports:
-        rate = viewers[f"{ADDRESS}:{port}"]["rate"]
-        checks.check(is_near(rate, RTP_RATE), f"a viewer by RTP gets {rate / 1e6:.3f} Mbit/s")
     own = (play.receivers.payload - before) * 8 / took / 2
-    checks.check(is_near(own, RATE), f"by its own count {own / 1e6:.3f} Mbit/s without headers")
+    checks.check(is_near(own, RATE, 0.1), f"viewers by RTP count {own / 1e6:.3f} Mbit/s each")
     rate = viewers[play.reader.address()]["rate"]
     checks.check(is_near(rate, RATE), f"a viewer by HTTP gets {rate / 1e6:.3f} Mbit/s")
     own = (play.reader.count - counted) * 8 / took
-    checks.check(is_near(own, RATE), f"by its own count {own / 1e6:.3f} Mbit/s")
+    checks.check(is_near(own, RATE, 0.1), f"by its own count {own / 1e6:.3f} Mbit/s")
+    streams = [(it["tuning"].split()[0], it["plays"]) for it in told["streams"] or ()]
+    checks.check(len(streams) == 2 and all(it[1] for it in streams), f"streams: {streams}")
+    # That of DESCRIBE is open too.
+    checks.check(told["open"] in (3, 4), f"{told['open']} connections are open")
+    if told["version"] is None:
+        ports = {int(it.rpartition(":")[2]) for it in told["uncounted"]}
+        all_of_them = {*play.ports, play.left, play.closed}
+        checks.check(ports == all_of_them, f"destinations of RTP: {sorted(ports)}")
+    else:
+        check_counted(checks, play, told, viewers)
+
+
+def check_counted(checks, play, told, viewers):
+    """What the status file alone tells."""
+    for port in play.ports:
+        rate = viewers[f"{ADDRESS}:{port}"]["rate"]
+        checks.check(is_near(rate, RTP_RATE), f"a viewer by RTP gets {rate / 1e6:.3f} Mbit/s")
     checks.check(f"{ADDRESS}:{play.left}" not in viewers, "the one that left isn't there")
     lost = viewers.get(f"{ADDRESS}:{play.closed}", {"refused": 0})["refused"]
     checks.check(lost > 100, f"{lost} datagrams of the one without a port are refused")
@@ -124,11 +144,6 @@ def check_status(checks, server, play):
     fronts = [it for it in told["front_ends"] if it["rate"]]
     near = len(fronts) == 2 and all(is_near(it["rate"], RATE) for it in fronts)
     checks.check(near, f"front ends read {[it['rate'] / 1e6 for it in fronts]} Mbit/s")
-    streams = [(it["tuning"].split()[0], it["plays"]) for it in told["streams"] or ()]
-    checks.check(len(streams) == 2 and all(it[1] for it in streams), f"streams: {streams}")
-    kinds = sorted(it["kind"] for it in told["viewers"])
-    # That of DESCRIBE is open too.
-    checks.check(told["open"] in (3, 4), f"{told['open']} connections are open, viewers are {kinds}")
 
 
 def check_metrics(checks, server, play):
@@ -137,8 +152,9 @@ def check_metrics(checks, server, play):
     words = ("promtool", "check", "metrics")
     said = subprocess.run(words, input=ran.stdout, capture_output=True, text=True, check=False)
     checks.check((said.returncode, said.stderr) == (0, ""), f"promtool finds nothing {said.stderr}")
-    found = re.findall(r"satip_datagrams_refused_total\{.*:%d\"\} (\S+)" % play.closed, ran.stdout)
-    checks.check(sum(map(float, found)) > 100, f"datagrams refused: {found}")
+    if is_told(server):
+        found = re.findall(r"satip_datagrams_refused_total\{.*:%d\"\} (\S+)" % play.closed, ran.stdout)
+        checks.check(sum(map(float, found)) > 100, f"datagrams refused: {found}")
     checks.check('satip_streams{state="playing"} 2.0' in ran.stdout, "two streams play")
 
 
@@ -152,7 +168,8 @@ def check_page(checks, server, picture):
         with urllib.request.urlopen(f"{url}status.json", timeout=5) as answer:
             told = json.load(answer)
         rates = [it["rate"] for it in told["viewers"] if is_near(it["rate"], RATE * 1.005)]
-        checks.check(len(rates) == 3, f"{url} has three viewers of the rate")
+        count = 3 if is_told(server) else 1
+        checks.check(len(rates) == count, f"{url} has {len(rates)} viewers of the rate")
         checks.check(all(it["minute"] for it in told["viewers"]), "each has its minute")
         if not shutil.which("chromium"):
             print("     chromium isn't installed, so the page isn't drawn")
@@ -164,7 +181,7 @@ def check_page(checks, server, picture):
         shown = subprocess.run(dom, capture_output=True, text=True, timeout=60, check=True).stdout
         checks.check(os.path.getsize(picture) > 10000, f"Chromium draws it: {picture}")
         rows = shown.count("<tr tabindex")
-        checks.check(shown.count("Mbit/s</td>") >= 5 and rows >= 6, f"it shows {rows} lines")
+        checks.check("Mbit/s</td>" in shown and rows >= 5, f"it shows {rows} lines")
     finally:
         page.kill()
         page.wait()
@@ -189,8 +206,10 @@ def check_stop(checks, server, play):
     checks.check(status == 0, f"it ends with {status} {seconds(took)} after the last viewer left")
     said = stop.communicate(timeout=10)[0].splitlines()
     checks.check(stop.returncode == 0, f"satipctl stop ends with {stop.returncode}: {said}")
-    counts = [int(it.split()[0]) for it in said if " connections" in it]
-    checks.check(counts[:1] == [3] and said[-1:] == ["ended"], f"it showed who was there: {counts}")
+    if is_told(server):
+        counts = [int(it.split()[0]) for it in said if " connections" in it]
+        checks.check(counts[:1] == [3], f"it showed who was there: {counts}")
+    checks.check(said[-1:] == ["ended"], "it says the end")
     checks.check(not os.path.exists(server.path("stop")), "the stop file is removed")
 
 
