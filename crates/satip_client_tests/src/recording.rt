@@ -135,6 +135,13 @@ const USUAL: Row = Row {
     told: None,
 };
 
+// The first request that keeps a session alive, and the last request after it.
+const OPTIONS: &[u8] =
+    b"OPTIONS rtsp://127.0.0.1:18554/ RTSP/1.0\r\nCSeq: 3\r\nSession: 1a\r\n\r\n";
+
+const TEARDOWN: &[u8] =
+    b"TEARDOWN rtsp://127.0.0.1:18554/stream=7 RTSP/1.0\r\nCSeq: 4\r\nSession: 1a\r\n\r\n";
+
 const ROWS: &[Row] = &[
     Row {
         name: "a gap is told once it is passed",
@@ -168,11 +175,31 @@ const ROWS: &[Row] = &[
         name: "half of the timeout brings OPTIONS",
         came: &[Came::Other(b"no RTP"), Came::Data(9)],
         troubles: Troubles { idle: 1, ..NONE },
-        sent: Some(&[
-            OPENED,
-            b"OPTIONS rtsp://127.0.0.1:18554/ RTSP/1.0\r\nCSeq: 3\r\nSession: 1a\r\n\r\n",
-            b"TEARDOWN rtsp://127.0.0.1:18554/stream=7 RTSP/1.0\r\nCSeq: 4\r\nSession: 1a\r\n\r\n",
-        ]),
+        sent: Some(&[OPENED, OPTIONS, TEARDOWN]),
+        ..USUAL
+    },
+    Row {
+        name: "the clock is read before a receive behind an idle one",
+        came: &[Came::Data(9)],
+        moments: &[5, 1004, 1005],
+        troubles: Troubles { idle: 1, ..NONE },
+        sent: Some(&[OPENED, OPTIONS, TEARDOWN]),
+        ..USUAL
+    },
+    Row {
+        name: "OPTIONS is sent before a receive that fails",
+        moments: &[5, 1005],
+        troubles: Troubles { inlet: 1, ..NONE },
+        end: RecordEnd::PeerFault,
+        sent: Some(&[OPENED, OPTIONS]),
+        ..USUAL
+    },
+    Row {
+        name: "OPTIONS that fails ends it",
+        moments: &[5, 1005],
+        troubles: Troubles { send: 3, ..NONE },
+        end: RecordEnd::PeerFault,
+        sent: Some(&[OPENED, b"OPTIO"]),
         ..USUAL
     },
     Row {
@@ -185,7 +212,7 @@ const ROWS: &[Row] = &[
         moments: &[5, 1005, 2004, 2005],
         sent: Some(&[
             OPENED,
-            b"OPTIONS rtsp://127.0.0.1:18554/ RTSP/1.0\r\nCSeq: 3\r\nSession: 1a\r\n\r\n",
+            OPTIONS,
             b"OPTIONS rtsp://127.0.0.1:18554/ RTSP/1.0\r\nCSeq: 4\r\nSession: 1a\r\n\r\n",
             b"TEARDOWN rtsp://127.0.0.1:18554/stream=7 RTSP/1.0\r\nCSeq: 5\r\nSession: 1a\r\n\r\n",
         ]),

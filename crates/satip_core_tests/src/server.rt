@@ -203,3 +203,52 @@ fn a_session_that_is_not_heard_of_ends(rt: HostRuntime) {
     check(&rt, "too late", out.reply(), NOT_FOUND);
     check_stop(&rt, &mut server, &mut out);
 }
+
+// A name, the stream that is described, if it is one alone, and the beginning and the length of the
+// reply. The lines of the server have 60 bytes, those of an untuned stream 129 or 130.
+type DescriptionRow = (&'static str, Option<u16>, &'static [u8], usize);
+
+const DESCRIPTIONS: &[DescriptionRow] = &[
+    (
+        "all streams",
+        None,
+        b"RTSP/1.0 200 OK\r\n\
+        CSeq: 2\r\n\
+        Content-Type: application/sdp\r\n\
+        Content-Base: rtsp://192.168.1.10/\r\n\
+        Content-Length: 8371\r\n\r\n\
+        v=0\r\n",
+        117 + 60 + 9 * 129 + 55 * 130,
+    ),
+    (
+        "the last stream",
+        Some(64),
+        b"RTSP/1.0 200 OK\r\n\
+        CSeq: 2\r\n\
+        Content-Type: application/sdp\r\n\
+        Content-Base: rtsp://192.168.1.10/\r\n\
+        Content-Length: 190\r\n\r\n\
+        v=0\r\n",
+        116 + 60 + 130,
+    ),
+];
+
+#[test]
+fn sixty_four_streams_are_described(rt: HostRuntime) {
+    let mut out = output(&rt, rt.alloc());
+    let mut server = server(&rt, rt.alloc());
+    let setup = setup(Query::new());
+    for _stream in 0..64 {
+        ask(&rt, &mut server, &mut out, "SETUP", &setup, 200);
+    }
+    for (name, stream, beginning, bytes) in DESCRIPTIONS {
+        let describe = Request {
+            stream: *stream,
+            session: SessionName::Absent,
+            ..request(Method::Describe)
+        };
+        ask(&rt, &mut server, &mut out, name, &describe, 200);
+        check(&rt, name, out.reply().starts_with(beginning), true);
+        check(&rt, name, out.reply().len(), *bytes);
+    }
+}

@@ -1,5 +1,5 @@
 -- Turns of receiving, one after another.
-use Rattle.std.proofs.Common.{◌≡◌, inl, inr, ℕ, ◌+◌, ◌<◌, ◌≤◌, List, [], ◌∷◌, ◌++◌, length, refl, sym, ap, ◌∙◌, subst, arith, append_assoc, append-nil, length-append, Result, Ok, Err}
+use Rattle.std.proofs.Common.{◌≡◌, inl, inr, ℕ, ◌+◌, ◌<◌, ◌≤◌, ◌⊎◌, List, [], ◌∷◌, ◌++◌, length, refl, sym, ap, ◌∙◌, subst, arith, append_assoc, append-nil, length-append, Result, Ok, Err}
 use Rattle.satip_world.specs.Counts.{Rises}
 use Rattle.satip_world.specs.Dials.{Dial, Reads}
 use Rattle.satip_world.specs.Lines.{Line, Grew}
@@ -54,6 +54,14 @@ beaten-then tells a m b address terms xs ys first second = record {
   faults = faults_then a.wire m.wire b.wire first.faults second.faults;
 }
 
+rises-from : (o m n : ℕ) → m ≡ o → Rises m n → Rises o n
+rises-from o m n same rises = subst (λ (k : ℕ). Rises k n) same rises
+
+-- all was sent unless a send failed, from an earlier count of faults on
+pub sent-after : (o m n : ℕ) (rest : List ℕ) → m ≡ o → Rises m n ⊎ (rest ≡ []) → Rises o n ⊎ (rest ≡ [])
+sent-after o m n rest same (inl rises) = inl (rises-from o m n same rises)
+sent-after o m n rest same (inr none) = inr none
+
 beaten-until : (tells : Type 0) (a m b : Talk) (address : List ℕ) (terms : Terms) (xs : List ℕ) → Beaten tells a m address terms xs
     → BeatenUntil tells m b address terms → BeatenUntil tells a b address terms
 beaten-until tells a m b address terms xs first second =
@@ -66,6 +74,7 @@ beaten-until tells a m b address terms xs first second =
       whole = sym (asked-then address terms a.pulse m.pulse xs second.moments first.pulse)
           ∙ ap (λ (t : List ℕ). sent ++ t) second.whole ∙ sym (append_assoc sent second.part second.rest);
       asked = grew_then tells a.wire m.wire b.wire [] sent [] second.part first.asked second.asked;
+      sent_all = sent-after a.wire.send_faults m.wire.send_faults b.wire.send_faults second.rest first.faults.send_faults second.sent_all;
     }
 
 beaten-all : (tells : Type 0) (a b : Talk) (address : List ℕ) (terms : Terms) (xs : List ℕ) → Beaten tells a b address terms xs
@@ -77,6 +86,7 @@ beaten-all tells a b address terms xs first = record {
   rest = [];
   whole = sym (append-nil (options_sent address terms a.pulse xs));
   asked = first.asked;
+  sent_all = inr refl;
 }
 
 beaten-none : (tells : Type 0) (a : Talk) (address : List ℕ) (terms : Terms) → Beaten tells a a address terms []
@@ -106,6 +116,7 @@ beaten-failed tells o n address terms moment reads beat = record {
   rest = beat.rest;
   whole = append-nil (sent_at address terms o.pulse moment) ∙ beat.whole;
   asked = beat.content;
+  sent_all = inl beat.rose;
 }
 
 -- nothing more came
@@ -121,18 +132,26 @@ caught-nothing tells tells_output tells_errors i o = record {
   wound = wound-none tells_output tells_errors o;
 }
 
-rises-from : (o m n : ℕ) → m ≡ o → Rises m n → Rises o n
-rises-from o m n same rises = subst (λ (k : ℕ). Rises k n) same rises
-
 cause-of : (limit readings : ℕ) (a b : Line) (i j : Inbox) (end : RecordEnd) → CatchCause i j end → Cause limit readings a b i j end
 cause-of limit readings a b i j Done cause = cause
-cause-of limit readings a b i j OutputFault cause = cause
+cause-of limit readings a b i j OutputFault cause = tt
 cause-of limit readings a b i j (Refused code) cause = cause
 cause-of limit readings a b i j BadReply cause = cause
 cause-of limit readings a b i j Silent cause = absurd cause
 cause-of limit readings a b i j PeerFault cause = inr cause
 cause-of limit readings a b i j Closed cause = cause
 cause-of limit readings a b i j OutOfMemory cause = cause
+
+-- an end by the inlet other than `PeerFault` comes with no fault of it
+calm-inlet : (i j : Inbox) (end : RecordEnd) → CatchCause i j end → (end ≡ PeerFault → ⊥) → j.faults ≡ i.faults
+calm-inlet i j Done cause other = absurd cause
+calm-inlet i j OutputFault cause other = cause
+calm-inlet i j (Refused code) cause other = absurd cause
+calm-inlet i j BadReply cause other = absurd cause
+calm-inlet i j Silent cause other = absurd cause
+calm-inlet i j PeerFault cause other = absurd (other refl)
+calm-inlet i j Closed cause other = absurd cause
+calm-inlet i j OutOfMemory cause other = absurd cause
 
 -- after `k` turns with a reading each
 pub cause-after : (limit rest k all more : ℕ) (a m b : Line) (i l j : Inbox) (end : RecordEnd) → limit ≤ k + rest → all ≡ k + more
@@ -184,6 +203,9 @@ stopped-after k o m n address terms limit rest end result first some less is sec
       cause = cause-after limit rest (length first.moments) (length (first.moments ++ second.talks.moments)) (length second.talks.moments)
           o.talk.wire m.talk.wire n.talk.wire o.inlet m.inlet n.inlet end less turns first.talks.faults.send_faults
           first.reels.faults first.reels.took second.cause;
+      faults = λ other.
+          let calm = second.faults other in
+          (faults_then o.talk.wire m.talk.wire n.talk.wire first.talks.faults calm.0, calm.1 ∙ first.reels.faults);
     })
 
 pub course-begun : (k : DeviceTells) (o : Station) (address : List ℕ) (terms : Terms)
@@ -208,6 +230,7 @@ stopped-catching k o n address terms limit end moment reads beat caught = record
   timed = caught.1;
   counted = caught.2;
   cause = cause-of limit (length (moment ∷ [])) o.talk.wire n.talk.wire o.inlet n.inlet end caught.3;
+  faults = λ other. (beat.faults, calm-inlet o.inlet n.inlet end caught.3 other);
 }
 
 -- all turns were taken
@@ -225,6 +248,7 @@ stopped-silent k o n address terms limit course all some = record {
   timed = course.reels.timed;
   counted = course.reels.counted;
   cause = (all, turns-fewer (length course.moments) limit o.inlet n.inlet all course.reels.took);
+  faults = λ other. (course.talks.faults, course.reels.faults);
 }
 
 -- the request that keeps the session alive wasn't sent whole
@@ -242,6 +266,7 @@ stopped-failed k o n i r address terms limit moment some reads beat = record {
   timed = omega arith;
   counted = omega arith;
   cause = inl beat.rose;
+  faults = λ other. absurd (other refl);
 }
 
 -- one turn, by what its parts come to

@@ -19,7 +19,7 @@ use Rattle.satip_client.specs.Pulses.{talk}
 use Rattle.satip_config.specs.Lines.{Says}
 use Rattle.satip_config.specs.Outcomes.{line_of}
 use Rattle.satip_config.specs.declared.outcome.Outcome.TheVariants as outcomes
-use Rattle.satip_client.proofs.PulseLemmas.{grew_then}
+use Rattle.satip_client.proofs.PulseLemmas.{grew_then, faults_then}
 use Rattle.satip_recorder.specs.Tapes.{gap_lines, packets_in, Tells}
 use Rattle.satip_recorder.specs.Arrivals.{AreRead}
 use Rattle.satip_recorder.specs.Outcomes.{outcome_of}
@@ -29,7 +29,7 @@ use Rattle.satip_recorder.specs.Openings.{Opened, EndsOpening, Leaves, LeavesNot
 use Rattle.satip_recorder.specs.Recordings.{bytes_of, turn_limit, fresh_tape, link_of, first_pulse, Opening, Filled, EndedLeaving, EndedReceiving, EndedOpening, Records, Runs, Ends, LeaveCause, end_for}
 use Rattle.satip_recorder.specs.declared.tape.Tape.{Tape}
 use Rattle.satip_recorder.proofs.ArrivalLemmas.{small, turns-none}
-use Rattle.satip_recorder.proofs.CourseLemmas.{cause-after}
+use Rattle.satip_recorder.proofs.CourseLemmas.{cause-after, sent-after}
 use Rattle.satip_recorder.proofs.TapeLemmas.{tells-none, tells-then}
 
 abbrev pub numbered : ℕ → ℕ → Pulse
@@ -126,6 +126,8 @@ ended_receiving k o m mark r n w terms end opened stopped =
       part = stopped.talks.part;
       rest = stopped.talks.rest;
       whole = stopped.talks.whole;
+      sent_all = sent-after o.wire.send_faults m.wire.send_faults n.talk.wire.send_faults stopped.talks.rest opened.faults.send_faults
+          stopped.talks.sent_all;
       requests = grew_sent k.wire o.wire m.wire n.talk.wire (opened.first ++ opened.second)
           (setup_request w.address w.query o.inlet.port ++ play_request w.address terms.stream terms.session) stopped.talks.part
           opened.content stopped.talks.asked;
@@ -145,6 +147,9 @@ ended_receiving k o m mark r n w terms end opened stopped =
       lines_are = refl;
       cause = cause-after limit limit 0 readings readings o.wire m.wire n.talk.wire o.inlet o.inlet n.inlet end (omega arith) (omega arith)
           opened.faults.send_faults refl (turns-none o.inlet) stopped.cause;
+      faults = λ other.
+          let calm = stopped.faults other in
+          (faults_then o.wire m.wire n.talk.wire opened.faults calm.0, calm.1);
     }
 
 -- what an end of each part comes to
@@ -223,6 +228,7 @@ record SentPart (t : Type 0) (w x : Line) (request : List ℕ) : Type 0 where
   rest : List ℕ
   whole : request ≡ part ++ rest
   content : Grew t w x [] part
+  receives : x.receive_faults ≡ w.receive_faults
 
 sent-part : (t : Type 0) (w x : Line) (request : List ℕ) (end : RecordEnd) → LeavesNot t w x request end → SentPart t w x request
 sent-part t w x request Done is = absurd is
@@ -230,7 +236,7 @@ sent-part t w x request OutputFault is = absurd is
 sent-part t w x request (Refused code) is = absurd is
 sent-part t w x request BadReply is = absurd is
 sent-part t w x request Silent is = absurd is
-sent-part t w x request PeerFault is = record { part = is.part; rest = is.rest; whole = is.whole; content = is.content }
+sent-part t w x request PeerFault is = record { part = is.part; rest = is.rest; whole = is.whole; content = is.content; receives = is.receive_faults }
 sent-part t w x request Closed is = absurd is
 sent-part t w x request OutOfMemory is = absurd is
 
@@ -245,6 +251,11 @@ runs_leaving k o m x mark r n w terms (Ok done) opened course full sent = record
     terms = terms;
     pulse = n.talk.pulse;
     filled = filled k o m x mark r n w terms (teardown_request w.address terms.stream n.talk.pulse.cseq terms.session) opened course full sent.content;
+    faults = (
+      faults_then o.wire n.talk.wire x (faults_then o.wire m.wire n.talk.wire opened.faults course.talks.faults)
+          (record { receive_faults = sent.counts.receive_faults; send_faults = sent.counts.send_faults }),
+      course.reels.faults,
+    );
   };
   told = course.reels.wound.taped.told;
 }
@@ -262,6 +273,7 @@ runs_leaving k o m x mark r n w terms (Err end) opened course full is =
         whole = s.whole;
         filled = filled k o m x mark r n w terms s.part opened course full s.content;
         cause = leaves-cause k.wire o.wire n.talk.wire x request end (course.talks.faults.send_faults ∙ opened.faults.send_faults) is;
+        faults = (s.receives ∙ course.talks.faults.receive_faults ∙ opened.faults.receive_faults, course.reels.faults);
       });
       told = course.reels.wound.taped.told;
     }

@@ -166,7 +166,7 @@ caught-got tells tells_output tells_errors i j o n buf size got wound = record {
   faults = got.faults;
   took = turn-got tells i j buf size got;
   timed = omega arith;
-  counted = omega (arith, got.count);
+  counted = omega (arith, got.count, got.idles);
   wound = wound;
 }
 
@@ -179,7 +179,7 @@ caught-idle tells tells_output tells_errors i j o got = record {
   faults = got.faults;
   took = turn-none tells i j got;
   timed = omega arith;
-  counted = omega (arith, got.count);
+  counted = omega (arith, got.count, got.one_idle);
   wound = wound-none tells_output tells_errors o;
 }
 
@@ -194,8 +194,8 @@ caught-output tells tells_output tells_errors i j o n buf size got wound = (
     wound = wound;
   },
   omega arith,
-  omega (arith, got.count),
-  tt,
+  omega (arith, got.count, got.idles),
+  got.faults,
 )
 
 pub caught-failed : (tells tells_output tells_errors : Type 0) (i j : Inbox) (o : Reel) → 0 < o.tape.left → FailedToGet tells i j
@@ -208,7 +208,7 @@ caught-failed tells tells_output tells_errors i j o some failed = (
     wound = wound-all tells_output tells_errors o o PeerFault [] (wound-none tells_output tells_errors o) some (λ bytes puts. puts);
   },
   omega arith,
-  omega (arith, failed.count),
+  omega (arith, failed.count, failed.idles),
   failed.faults,
 )
 

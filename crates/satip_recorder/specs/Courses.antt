@@ -67,7 +67,7 @@ pub record Beaten (tells : Type 0) (o n : Talk) (address : List ℕ) (terms : Te
   pub asked : Grew tells o.wire n.wire [] (options_sent address terms o.pulse moments)
   pub faults : SameFaults o.wire n.wire
 
--- a prefix of those requests was sent
+-- a prefix of those requests was sent; unless a send failed it is all of them
 pub record BeatenUntil (tells : Type 0) (o n : Talk) (address : List ℕ) (terms : Terms) : Type 0 where
   pub moments : List ℕ
   pub clock : ReadsAll o.clock n.clock moments
@@ -75,6 +75,7 @@ pub record BeatenUntil (tells : Type 0) (o n : Talk) (address : List ℕ) (terms
   pub rest : List ℕ
   pub whole : options_sent address terms o.pulse moments ≡ part ++ rest
   pub asked : Grew tells o.wire n.wire [] part
+  pub sent_all : Rises o.wire.send_faults n.wire.send_faults ⊎ (rest ≡ [])
 
 -- the items that the catcher hands up of these datagrams were written and logged
 pub record Wound (tells_output tells_errors : Type 0) (o n : Reel) (datagrams : List (List ℕ)) : Type 0 where
@@ -83,7 +84,7 @@ pub record Wound (tells_output tells_errors : Type 0) (o n : Reel) (datagrams : 
   pub taped : Taped tells_output tells_errors (deck_of o) (deck_of n) (handed_up o.catcher arrivals)
   pub caught : 0 < n.tape.left → n.catcher ≡ after_all o.catcher arrivals
 
--- in this many turns these datagrams were received: at most one in each turn, and each turn was a receive
+-- in this many turns these datagrams were received: each turn was a receive, and there were no more receives
 pub record Caught (tells tells_output tells_errors : Type 0) (i j : Inbox) (o n : Reel) (turns : ℕ) : Type 0 where
   pub port : j.port ≡ i.port
   pub datagrams : List (List ℕ)
@@ -91,7 +92,7 @@ pub record Caught (tells tells_output tells_errors : Type 0) (i j : Inbox) (o n 
   pub faults : j.faults ≡ i.faults
   pub took : TookTurns turns i j
   pub timed : length datagrams ≤ turns
-  pub counted : j.count ≤ i.count + turns
+  pub counted : j.count + j.idles ≤ i.count + i.idles + turns
   pub wound : Wound tells_output tells_errors o n datagrams
 
 -- the bytes were written; with the end of an output fault only a prefix of them was, and the output failed
@@ -131,7 +132,7 @@ Winds tells_output tells_errors o n bytes Failed = WoundUntil tells_output tells
 -- the cause of an end by one turn of the inlet
 abbrev pub CatchCause : (i j : Inbox) → RecordEnd → Type 0
 CatchCause i j Done = ⊥
-CatchCause i j OutputFault = Unit {0}
+CatchCause i j OutputFault = j.faults ≡ i.faults
 CatchCause i j (Refused code) = ⊥
 CatchCause i j BadReply = ⊥
 CatchCause i j Silent = ⊥
@@ -143,7 +144,8 @@ CatchCause i j OutOfMemory = ⊥
 abbrev pub Catches : (tells tells_output tells_errors : Type 0) (i j : Inbox) (o n : Reel) → Result (Unit {0}) RecordEnd → Type 0
 Catches tells tells_output tells_errors i j o n (Ok done) = Caught tells tells_output tells_errors i j o n 1
 Catches tells tells_output tells_errors i j o n (Err end) =
-    (caught : CaughtUntil tells tells_output tells_errors i j o n end) × (length caught.datagrams ≤ 1) × (j.count ≤ i.count + 1) × CatchCause i j end
+    (caught : CaughtUntil tells tells_output tells_errors i j o n end) × (length caught.datagrams ≤ 1)
+    × (j.count + j.idles ≤ i.count + i.idles + 1) × CatchCause i j end
 
 -- the cause of an end while receiving, after this many readings of the clock: no turn left for `Silent`, each with its reading, and a fault for `PeerFault`;
 -- nothing is said of an output fault
@@ -163,12 +165,13 @@ pub record Course (k : DeviceTells) (o n : Station) (address : List ℕ) (terms 
   pub talks : Beaten k.wire o.talk n.talk address terms moments
   pub reels : Caught k.inlet k.output k.errors o.inlet n.inlet o.reel n.reel (length moments)
 
--- receiving ended with this end and its cause; the clock was read for each datagram
+-- receiving ended with this end and its cause; the clock was read for each receive, and only `PeerFault` comes with a fault
 pub record Stopped (k : DeviceTells) (o n : Station) (address : List ℕ) (terms : Terms) (limit : ℕ) (end : RecordEnd) : Type 0 where
   pub talks : BeatenUntil k.wire o.talk n.talk address terms
   pub reels : CaughtUntil k.inlet k.output k.errors o.inlet n.inlet o.reel n.reel end
   pub timed : length reels.datagrams ≤ length talks.moments
-  pub counted : n.inlet.count ≤ o.inlet.count + length talks.moments
+  pub counted : n.inlet.count + n.inlet.idles ≤ o.inlet.count + o.inlet.idles + length talks.moments
+  pub faults : (end ≡ PeerFault → ⊥) → SameFaults o.talk.wire n.talk.wire × (n.inlet.faults ≡ o.inlet.faults)
   pub cause : Cause limit (length talks.moments) o.talk.wire n.talk.wire o.inlet n.inlet end
 
 -- the outcome of receiving

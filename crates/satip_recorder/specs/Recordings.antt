@@ -11,7 +11,7 @@ use Rattle.satip_client.specs.Exchanges.{HasGrant, HasAnswer}
 use Rattle.satip_config.specs.Lines.{Says}
 use Rattle.satip_config.specs.Outcomes.{line_of}
 use Rattle.satip_client.specs.Leases.{Terms}
-use Rattle.satip_client.specs.Waits.{IsUpToPiece}
+use Rattle.satip_client.specs.Waits.{IsUpToPiece, SameFaults}
 use Rattle.satip_client.specs.declared.pulse.Pulse.{Pulse}
 use Rattle.satip_client.specs.declared.ending.RecordEnd.{RecordEnd}
 use Rattle.satip_client.specs.declared.ending.RecordEnd.TheVariants.{Done, OutputFault, Refused, BadReply, Silent, PeerFault, Closed, OutOfMemory}
@@ -60,7 +60,7 @@ pub record Opening (terms : Terms) (got : List ℕ) : Type 0 where
   pub play_piece : IsUpToPiece (drop size first) second
 
 -- all packets were written. The requests sent are SETUP, PLAY and each due OPTIONS, and then `last`; the lines are those of the gaps. The clock was read for
--- each datagram
+-- each receive
 pub record Filled (k : DeviceTells) (o n : Outside) (w : Task) (terms : Terms) (pulse : Pulse) (last lines : List ℕ) : Type 0 where
   pub mark : ℕ
   pub moments : List ℕ
@@ -76,17 +76,18 @@ pub record Filled (k : DeviceTells) (o n : Outside) (w : Task) (terms : Terms) (
   pub arrivals : List Datagram
   pub given : k.inlet → n.inlet.given ≡ o.inlet.given ++ datagrams
   pub timed : length datagrams ≤ length moments
-  pub counted : n.inlet.count ≤ o.inlet.count + length moments
+  pub counted : n.inlet.count + n.inlet.idles ≤ o.inlet.count + o.inlet.idles + length moments
   pub read : AreRead datagrams arrivals
   pub enough : bytes_of w.count ≤ length (packets_in (caught false arrivals))
   pub written : PutAll k.output o.output n.output (take (bytes_of w.count) (packets_in (caught false arrivals)))
   pub lines_are : lines ≡ gap_lines (bytes_of w.count) (caught false arrivals)
 
--- all packets were written, and the stream was given back
+-- all packets were written, the stream was given back, and no fault was counted
 pub record Completed (k : DeviceTells) (o n : Outside) (w : Task) (lines : List ℕ) : Type 0 where
   pub terms : Terms
   pub pulse : Pulse
   pub filled : Filled k o n w terms pulse (teardown_request w.address terms.stream pulse.cseq terms.session) lines
+  pub faults : SameFaults o.wire n.wire × (n.inlet.faults ≡ o.inlet.faults)
 
 -- the cause of an end at TEARDOWN
 abbrev pub LeaveCause : (a b : Line) → RecordEnd → Type 0
@@ -99,7 +100,7 @@ LeaveCause a b PeerFault = Rises a.send_faults b.send_faults
 LeaveCause a b Closed = ⊥
 LeaveCause a b OutOfMemory = ⊥
 
--- all packets were written, and TEARDOWN wasn't sent whole
+-- all packets were written, and TEARDOWN wasn't sent whole; no receive failed
 pub record EndedLeaving (k : DeviceTells) (o n : Outside) (w : Task) (lines : List ℕ) (end : RecordEnd) : Type 0 where
   pub terms : Terms
   pub pulse : Pulse
@@ -108,9 +109,10 @@ pub record EndedLeaving (k : DeviceTells) (o n : Outside) (w : Task) (lines : Li
   pub whole : teardown_request w.address terms.stream pulse.cseq terms.session ≡ part ++ rest
   pub filled : Filled k o n w terms pulse part lines
   pub cause : LeaveCause o.wire n.wire end
+  pub faults : (n.wire.receive_faults ≡ o.wire.receive_faults) × (n.inlet.faults ≡ o.inlet.faults)
 
--- SETUP and PLAY were accepted, and receiving ended with this end. A prefix of the due OPTIONS was sent, and a prefix of the items that were caught was handed
--- up. Unless the output failed it is all of them, and packets are missing. The clock was read for each datagram
+-- SETUP and PLAY were accepted, and receiving ended with this end. A prefix of the due OPTIONS was sent, all of them unless a send failed, and a prefix of the
+-- items that were caught was handed up. Unless the output failed it is all of them, and packets are missing. The clock was read for each receive
 pub record EndedReceiving (k : DeviceTells) (o n : Outside) (w : Task) (lines : List ℕ) (end : RecordEnd) : Type 0 where
   pub terms : Terms
   pub mark : ℕ
@@ -120,6 +122,7 @@ pub record EndedReceiving (k : DeviceTells) (o n : Outside) (w : Task) (lines : 
   pub part : List ℕ
   pub rest : List ℕ
   pub whole : options_sent w.address terms (first_pulse mark) moments ≡ part ++ rest
+  pub sent_all : Rises o.wire.send_faults n.wire.send_faults ⊎ (rest ≡ [])
   pub requests : Grew k.wire o.wire n.wire got
       (setup_request w.address w.query o.inlet.port ++ play_request w.address terms.stream terms.session ++ part)
   pub clock : ReadsAll o.clock n.clock (mark ∷ moments)
@@ -128,7 +131,7 @@ pub record EndedReceiving (k : DeviceTells) (o n : Outside) (w : Task) (lines : 
   pub arrivals : List Datagram
   pub given : k.inlet → n.inlet.given ≡ o.inlet.given ++ datagrams
   pub timed : length datagrams ≤ length moments
-  pub counted : n.inlet.count ≤ o.inlet.count + length moments
+  pub counted : n.inlet.count + n.inlet.idles ≤ o.inlet.count + o.inlet.idles + length moments
   pub read : AreRead datagrams arrivals
   pub handed : List Item
   pub left_out : List Item
@@ -137,6 +140,7 @@ pub record EndedReceiving (k : DeviceTells) (o n : Outside) (w : Task) (lines : 
   pub written : IsWritten end k.output o.output n.output (take (bytes_of w.count) (packets_in handed))
   pub lines_are : lines ≡ gap_lines (bytes_of w.count) handed
   pub cause : Cause (turn_limit w.count) (length moments) o.wire n.wire o.inlet n.inlet end
+  pub faults : (end ≡ PeerFault → ⊥) → SameFaults o.wire n.wire × (n.inlet.faults ≡ o.inlet.faults)
 
 abbrev pub link_of : Outside → Link
 link_of a = link a.wire a.clock
