@@ -1,5 +1,5 @@
-//! Reads the session clock and random bytes, counts what arrives from clients, looks for the file
-//! that asks a server to end, and writes lines for people to standard error.
+//! Clocks, random bytes, the count of arrivals, the file that asks a server to end, and lines on
+//! standard error.
 //! Contract: none on what is read or written.
 //! Only tested: that no step of the wall clock moves the session clock, that keys differ, that an
 //! arrival ends a wait for it, and when a server was asked to end.
