@@ -1,13 +1,16 @@
 #!/usr/bin/env python3
 """Measures `satip replay`, `satip talk` and `satip stress` on generated input, and prints a table.
 
-    python3 bench/replay.py [PROGRAM [WORD..]]
+    python3 bench/replay.py [--counts] [PROGRAM [WORD..]]
 
-PROGRAM is SATIP_PROGRAM or crates/satip/out/satip without the word, which `tools/program_alone.sh`
+With --counts it prints only instructions, and only of a made event of stress, of OPTIONS in talk, and
+of a mixed line and a PLAY of replay, which other work on the machine doesn't change. Packets have
+random payloads, the same in each run. PROGRAM is SATIP_PROGRAM or crates/satip/out/satip without the word, which `tools/program_alone.sh`
 builds. With words, only the rows with one of them in their names are measured. Needs the Debian
 package valgrind for the counts of instructions. Writes nothing into the repository."""
 
 import os
+import random
 import re
 import shutil
 import subprocess
@@ -95,9 +98,15 @@ def packet(front, place):
     return packet_of(front, 100 if place % 2 else 200, place)
 
 
+# Payloads of packets, one after another: digits that no processor predicts.
+PAYLOAD, PAYLOADS = 184, 4096
+NOISE = random.Random(1).randbytes(PAYLOAD * PAYLOADS)
+
+
 def packet_of(front, pid, place):
     head = bytes([0x47, pid >> 8, pid & 255, 0x10 | place % 16])
-    return f"packet {front} 1 {(head + place.to_bytes(4, 'big') * 46).hex()}\n"
+    begun = PAYLOAD * (place % PAYLOADS)
+    return f"packet {front} 1 {(head + NOISE[begun : begun + PAYLOAD]).hex()}\n"
 
 
 SESSIONS = 7
@@ -274,6 +283,21 @@ def instructions(words, text, folder):
     return int(counted[0].split(":")[1])
 
 
+def count_each(words, short, folder, unit):
+    """The instructions a line, or another unit, between two short texts."""
+    few, many = short
+    counted = instructions(words, many, folder) - instructions(words, few, folder)
+    return counted / (many.count(unit) - few.count(unit))
+
+
+def count_event(program, folder):
+    """The instructions of a made event."""
+    many, few = 40_000, 10_000
+    words = [program, "stress", "7"]
+    counted = instructions([*words, str(many)], b"", folder) - instructions([*words, str(few)], b"", folder)
+    return counted / (many - few)
+
+
 def measure(name, words, text, short, folder, unit):
     """A row of the table: the least time for a text, the output dropped or in a file, and the instructions
     a line (or another unit) between two short ones."""
@@ -285,9 +309,7 @@ def measure(name, words, text, short, folder, unit):
     stored, _ = min(run(words, folder, out) for _ in range(RUNS))
     each = "-"
     if shutil.which("valgrind"):
-        few, many = short
-        counted = instructions(words, many, folder) - instructions(words, few, folder)
-        each = f"{counted / (many.count(unit) - few.count(unit)):,.0f}"
+        each = f"{count_each(words, short, folder, unit):,.0f}"
     print(f"| {name}: {units:,}, {len(text) / 1e6:.1f} MB in, {os.path.getsize(out) / 1e6:.1f} MB out | {used:.2f} s | "
           f"{stored:.2f} s | {each} | {peak / 1024:.1f} MB |", flush=True)
 
@@ -299,9 +321,7 @@ def stress_row(program, folder, name):
     used, peak = min(run([*words, str(STRESS)], folder, os.devnull) for _ in range(RUNS))
     each = "-"
     if shutil.which("valgrind"):
-        many, few = 40_000, 10_000
-        counted = instructions([*words, str(many)], b"", folder) - instructions([*words, str(few)], b"", folder)
-        each = f"{counted / (many - few):,.0f}"
+        each = f"{count_event(program, folder):,.0f}"
     print(f"| {name}: {STRESS:,} | {used:.2f} s | - | {each} | {peak / 1024:.1f} MB |", flush=True)
 
 
@@ -332,12 +352,30 @@ def rows(program, folder):
         yield name, partial(row, program, folder, name)
 
 
+def print_counts(program, folder):
+    """The instructions that the aims of docs/SPEED.md name."""
+    print("| | instructions each |\n|---|---|", flush=True)
+    print(f"| stress, a made event | {count_event(program, folder):,.0f} |", flush=True)
+    talked = count_each([program, "talk"], (options(1_000), options(3_000)), folder, b"OPTIONS")
+    print(f"| talk, OPTIONS | {talked:,.0f} |", flush=True)
+    for name, kind_at in (("a mixed line", mixed), ("PLAY with two PIDs", in_turn("play"))):
+        short = tuple(script(count, kind_at) for count in (1_000, 4_000))
+        counted = count_each([program, "replay", "bench.toml"], short, folder, b"\n")
+        print(f"| replay, {name} | {counted:,.0f} |", flush=True)
+
+
 def main():
-    program = use_program(sys.argv[1:2])
-    wanted = sys.argv[2:] or [""]
+    given = sys.argv[1:]
+    counts = given[:1] == ["--counts"]
+    given = given[counts:]
+    program = use_program(given[:1])
+    wanted = given[1:] or [""]
     with tempfile.TemporaryDirectory() as folder:
         with open(os.path.join(folder, "bench.toml"), "w") as file:
             file.write(configuration())
+        if counts:
+            print_counts(program, folder)
+            return
         found = [row for name, row in rows(program, folder) if any(word in name for word in wanted)]
         if not found:
             sys.exit("no row has one of these words in its name")

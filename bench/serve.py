@@ -1,21 +1,24 @@
 #!/usr/bin/env python3
 """Measures `satip serve` on loopback, and plain loops that only send at the same pace: by sendto
 from one socket, and from a connected socket for each receiver; a pump and a ticker that only send
-and pause as the specification asks of a server; and a loop that only pauses. It counts the calls of
-the system by kind, too.
+and pause as the specification asks of a server; and a loop that only pauses. Beside them GStreamer's
+RTSP server sends the same recording (bench/gst_server.py), if its packages are installed. It counts
+the calls of the system by kind, too.
 
     python3 bench/serve.py [PROGRAM [SECONDS]]
 
 CPU is that of all threads of the server, by /proc/PID/task/*/schedstat. Packets are counted by the
-bytes that came; what is late or missing is read off the RTP numbers. Server and loops send by turns
+bytes that came; what is late or missing is read off the RTP numbers. Servers and loops send by turns
 in five rounds, and a row has the least of each. SECONDS, 6 without the word, is how long each of
 them sends. The first line says how many processors the machine kept busy before.
 
 PROGRAM is SATIP_PROGRAM or crates/satip/out/satip without the word, which `tools/program_alone.sh`
-builds. Needs the right to trace it, and the Debian packages gcc, libc6-dev, strace and ffmpeg."""
+builds. Needs the right to trace it, and the Debian packages gcc, libc6-dev, strace and ffmpeg. For
+GStreamer those of bench/gst_server.py."""
 
 import collections
 import os
+import re
 import subprocess
 import sys
 import tempfile
@@ -26,11 +29,13 @@ TOP = os.path.dirname(os.path.dirname(os.path.abspath(__file__)))
 sys.path.insert(0, os.path.join(TOP, "trials"))
 sys.dont_write_bytecode = True
 from lib.rtp import Receivers
+from lib.rtsp import Rtsp, over_udp
 from lib.server import (
     QUERY,
     Server,
     busy_processors,
     cpu_seconds,
+    free_ports,
     resident_megabytes,
     use_program,
 )
@@ -72,6 +77,44 @@ def loop_to(count, loop, kind, seconds):
     return float(told[3]) / int(told[1])
 
 
+class GStreamer:
+    """GStreamer's RTSP server with a recording, or `process` None where it isn't installed."""
+
+    def __init__(self, recording):
+        self.port = free_ports(ADDRESS)[0]
+        words = [os.path.join(TOP, "bench", "gst_server.py"), ADDRESS, str(self.port), recording]
+        quiet = {"stdout": subprocess.PIPE, "stderr": subprocess.DEVNULL, "text": True}
+        self.process = subprocess.Popen(words, **quiet)
+        if self.process.stdout.readline() != "ready\n":
+            print("GStreamer's server isn't measured: bench/gst_server.py says what it needs")
+            self.close()
+            self.process = None
+
+    def serve_to(self, count, seconds):
+        """CPU seconds of the server for each packet that came, and its receivers."""
+        receivers, client = Receivers(ADDRESS, count), Rtsp(ADDRESS, self.port, 20)
+        target, sessions = f"rtsp://{ADDRESS}:{self.port}/ts", []
+        for port in receivers.ports():
+            reply = client.must("SETUP", f"{target}/stream=0", over_udp(port))
+            sessions.append(re.search(r"^Session: *([^;\s]+)", reply, re.M).group(1))
+        for session in sessions:
+            client.must("PLAY", target, f"Session: {session}")
+        receivers.read_for(1)
+        before, packets = cpu_seconds(self.process.pid), receivers.packets()
+        receivers.read_for(seconds)
+        used = cpu_seconds(self.process.pid) - before
+        packets = receivers.packets() - packets
+        client.tear_down(target, *sessions)
+        receivers.close()
+        client.close()
+        return used / packets, receivers
+
+    def close(self):
+        if self.process:
+            self.process.kill()
+            self.process.wait()
+
+
 def measure_pauses(loop, seconds):
     words = [loop, "one", str(seconds)]
     least = min(
@@ -106,14 +149,19 @@ def measure_idle(server):
     print(f"no client: calls a second: {calls(server.pid, time.sleep)}")
 
 
-def measure_sending(server, loop, seconds):
+def measure_sending(server, gstreamer, loop, seconds):
     for count in RECEIVERS:
         served, loops, told = [], {kind: [] for kind in LOOPS}, collections.Counter()
+        beside, missed = [], 0
         for turn in range(ROUNDS):
             each, receivers, memory = serve_to(count, server, seconds, turn == 0)
             served.append(each)
             for kind, spent in loops.items():
                 spent.append(loop_to(count, loop, kind, seconds))
+            if gstreamer.process:
+                each, theirs = gstreamer.serve_to(count, seconds)
+                beside.append(each)
+                missed += theirs.missing
             told.update(datagrams=receivers.datagrams)
             told.update(late=receivers.late, missing=receivers.missing)
         least, one, connected, jobs = (1e6 * min(it) for it in (served, *loops.values()))
@@ -125,6 +173,10 @@ def measure_sending(server, loop, seconds):
             f"late {told['late']}, missing {told['missing']}; resident {memory:.1f} MB",
             flush=True,
         )
+        if beside:
+            other = 1e6 * min(beside)
+            told = f"{other:.3f} s of CPU a million packets, missing {missed}"
+            print(f"{count} receivers: GStreamer's server {told}; serve by it {least / other:.2f}", flush=True)
 
 
 def measure_requests(server, seconds):
@@ -164,12 +216,14 @@ def main():
         subprocess.run(["gcc", "-O2", "-pthread", "-o", loop, source], check=True)
         recording = make_recording(folder, 6 * seconds + 30)
         server = Server(ADDRESS, workers=ASKERS + 1, fronts=2, recording=recording)
+        gstreamer = GStreamer(os.path.join(folder, "made.ts"))
         try:
             measure_pauses(loop, seconds)
             measure_idle(server.process)
-            measure_sending(server, loop, seconds)
+            measure_sending(server, gstreamer, loop, seconds)
             measure_requests(server, seconds)
         finally:
+            gstreamer.close()
             server.close()
 
 

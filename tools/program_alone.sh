@@ -93,7 +93,7 @@ prove() {
 
 main() {
   [[ $# -le 1 && ${1-} != -* ]] || fail "usage: tools/program_alone.sh [FOLDER]"
-  local folder=${1-} status=0 built
+  local folder=${1-} status=0 built sources
   if [[ -z $folder ]]; then
     folder=$(mktemp -d "${TMPDIR:-/tmp}/satip-program-XXXXXX")
     # shellcheck disable=SC2064 # The folder is the one of now.
@@ -102,12 +102,17 @@ main() {
   mkdir -p "$folder"
   folder=$(cd "$folder" && pwd)
   [[ -z $(ls -A "$folder") ]] || fail "$folder isn't empty"
+  sources=$("$top/tools/kept_program.sh" sum)
   prove "$folder" || status=$?
   [[ $status == 0 ]] || return "$status"
   built=$folder/crates/satip/out/satip
   [[ -x $built ]] || fail "rt ci left no program in $folder"
   cp "$built" "$top/crates/satip/out/"
-  "$top/tools/kept_program.sh" keep
+  if [[ $("$top/tools/kept_program.sh" sum) == "$sources" ]]; then
+    "$top/tools/kept_program.sh" keep
+  else
+    printf 'The sources were changed meanwhile, so tools/run.sh will prove them again.\n'
+  fi
   printf 'the program: %s\n' "$top/crates/satip/out/satip"
 }
 

@@ -4,9 +4,10 @@
     trials/fault_lines.py
 
 strace(1) makes system calls fail: the listener of one worker, reads of one recording, datagrams of
-one pump, accept4 and the opening of a recording when no descriptor is left, sends of a stream over
+one pump, the rewind of one recording, accept4 and the opening of a recording when no descriptor is left, sends of a stream over
 HTTP when there is no memory, writes to standard error, and the start of threads. One recording is
-taken away. Each line has to come once, with its time, its cause and, if the table of
+taken away, a client closes its port, and a configuration isn't there, or isn't TOML. Standard error is
+the journal's stream once. Each line has to come once, with its time, its cause and, if the table of
 docs/USING.md has brackets, its advice; one that counts has to come again after a minute. Clients
 of the rest have to be served meanwhile. If the server ends, the line of its status is the last. If
 threads can't be started, it has to serve by those that it has. A shortage that passes ends no
@@ -20,7 +21,7 @@ Packages: strace
 Limit: 300 s
 """
 
-import email.utils
+import datetime
 import os
 import re
 import signal
@@ -31,13 +32,24 @@ import time
 
 sys.dont_write_bytecode = True
 from lib.checks import Checks, seconds
-from lib.rtp import arrived, port_of, receiver
+from lib.rtp import arrived, port_of, receiver_pair
 from lib.rtsp import over_udp
-from lib.server import QUERIES, QUERY, Server
+from lib.server import (
+    QUERIES,
+    QUERY,
+    Server,
+    configuration,
+    free_ports,
+    plain_packets,
+    program,
+)
 
 ADDRESS = "127.0.23.4"
 NOT_BEGUN = r"(\d+) of (\d+) jobs have not begun, .*\(.*ulimit -u.*\)"
-REFUSED = re.compile(r"datagrams refused since .* full send buffers: (\d+) \(.*wmem_max\)")
+REFUSED = re.compile(
+    r"datagrams refused since the start: [\d.]+:\d+, no room (\d+) \(.*wmem_max\)"
+)
+UNHEARD = re.compile(r"datagrams refused since the start: [\d.]+:(\d+), unheard (\d+) \(.*\)")
 checks = Checks()
 
 
@@ -50,7 +62,7 @@ class Player:
 
     def __init__(self, server, query=QUERY):
         client = server.client()
-        self.sock = receiver(client.host, 1 << 20)
+        self.sock, self.reports = receiver_pair(client.host)
         self.server = server
         self.target, self.session = client.play(client.url(query), over_udp(port_of(self.sock)))
         client.close()
@@ -152,7 +164,7 @@ def come_until(server, holds):
 
 def lines_of(server):
     """Returns the lines that have a moment, but the first: moment and text."""
-    parted = [re.fullmatch(r"(.* GMT): (.*)", line) for line in server.said().splitlines()]
+    parted = [re.fullmatch(r"(\d{4}-\d\d-\d\dT[\d:]+Z): (.*)", line) for line in server.said().splitlines()]
     return [(line.group(1), line.group(2)) for line in parted if line][1:]
 
 
@@ -171,7 +183,7 @@ def check_line(server, pattern, what, length=5):
     found = told(server, pattern, length)
     checks.check(len(found) == 1, f"{what}: one line tells it: {found}")
     for moment, _ in found:
-        off = time.time() - email.utils.parsedate_to_datetime(moment).timestamp()
+        off = time.time() - datetime.datetime.fromisoformat(moment.replace("Z", "+00:00")).timestamp()
         checks.check(-1 <= off < 8, f"{what}: with its time: {off:.1f} s ago")
 
 
@@ -235,13 +247,83 @@ def one_recording_goes():
         check_line(server, line, what)
         check_rest(server, other, what)
         gone.tear_down()
-        what = "a FIFO is in its place"
+        what = "it is asked for again within a minute"
+        Player(server, QUERIES[1]).tear_down()
+        checks.check(len(told(server, line)) == 1, f"{what}: one line tells it")
+
+
+def a_fifo_is_no_recording():
+    with start(workers=4, fronts=2, files=("a.ts", "b.ts")) as server:
+        other = Player(server)
+        what = "a FIFO is in a recording's place"
+        os.remove(server.path("b.ts"))
         os.mkfifo(server.path("b.ts"))
         Player(server, QUERIES[1])
         line = r"recording b\.ts can't be played: it is not a regular file \(put it back, .*\)"
         check_line(server, line, what)
         check_rest(server, other, what)
 
+
+def a_rewind_fails():
+    """Of recordings of 1600 packets and one more: 16 are read at once."""
+    for count in (1600, 1601):
+        repeats = ("env", "SATIP_REPEAT=1")
+        recording = plain_packets(count)
+        with start(workers=4, recording=recording, before=repeats) as server:
+            player = Player(server)
+            what = f"the rewind of a recording of {count} packets fails"
+            checks.check(player.goes_on(), f"{what}: it repeats before")
+            fault = Injection(server, "lseek", "error=EIO:when=1")
+            line = r"recording a\.ts can't be read on, .*[Ii]nput/output error.* \(.* disk: .*\)"
+            check_line(server, line, what)
+            checks.check(not player.goes_on(1), f"{what}: its stream ends")
+            fault.end()
+
+
+def no_program_listens():
+    with start(workers=4, before=("env", "SATIP_REPEAT=1")) as server:
+        player = Player(server)
+        port = port_of(player.sock)
+        player.sock.close()
+        found = told(server, UNHEARD.pattern)
+        ports = [int(UNHEARD.fullmatch(text).group(1)) for _, text in found]
+        checks.check(ports == [port], f"a client has closed its port {port}: one line tells it: {found}")
+
+
+def configurations():
+    """A configuration that can't be opened, isn't a file, or isn't TOML."""
+    with start(workers=1) as server:
+        bad = server.path("bad.toml")
+        with open(bad, "w", encoding="ascii") as file:
+            file.write('address = "127.0.0.1"\nworkers = = 2\n')
+        gone = server.path("gone.toml")
+        for path, pattern, status in (
+            (gone, rf"{gone}: .*[Nn]o such file.*\ninput fault\n", 5),
+            (server.folder.name, rf"{server.folder.name}: .*[Ii]s a directory.*\ninput fault\n", 5),
+            (bad, rf"{bad}: line 2: .+\nconfiguration: not toml\n", 3),
+        ):
+            done = subprocess.run([program(), "serve", path, "1"], capture_output=True, check=False)
+            said = done.stderr.decode()
+            right = done.returncode == status and re.fullmatch(pattern, said)
+            checks.check(right, f"a configuration: status {done.returncode}, {said!r}")
+
+
+def standard_error_is_the_journal():
+    """A socket stands for the journal's stream."""
+    ours, theirs = socket.socketpair()
+    stat = os.fstat(theirs.fileno())
+    with start(workers=1) as server:
+        for number, sign in ((stat.st_ino, b"<6>ready at "), (stat.st_ino + 1, b"20")):
+            stream = f"{stat.st_dev}:{number}"
+            config = server.path("other.toml")
+            with open(config, "w", encoding="ascii") as file:
+                file.write(configuration(ADDRESS, free_ports(ADDRESS), files=()))
+            words = [program(), "serve", config, "0"]
+            env = {**os.environ, "JOURNAL_STREAM": stream}
+            with subprocess.Popen(words, stderr=theirs, env=env) as process:
+                said = ours.recv(4096)
+                process.kill()
+            checks.check(said.startswith(sign), f"JOURNAL_STREAM={stream}: {said!r}")
 
 def no_descriptors():
     with start(workers=4) as server:
@@ -370,6 +452,11 @@ def main():
         status_comes_last()
         one_recording_fails()
         one_recording_goes()
+        a_fifo_is_no_recording()
+        a_rewind_fails()
+        no_program_listens()
+        configurations()
+        standard_error_is_the_journal()
         no_descriptors()
         no_descriptor_for_a_recording()
         no_memory_for_a_stream()

@@ -9,7 +9,8 @@ systemd's Restart does, and goes on for as many seconds once all readers are bac
 
 - each reader got a piece of the recording whole, byte for byte, on each of its connections,
 - only the readers of the killed server lost their stream,
-- each of them came back by the balancer and got a stream again.
+- each of them came back by the balancer and got a stream again,
+- the balancer's exporter tells Prometheus of each server, and its socket answers.
 
 Ends with status 1 if something doesn't hold. Needs the built program (trials/lib/server.py), and the
 ports 18554 and 18875 of these addresses.
@@ -29,6 +30,7 @@ import subprocess
 import sys
 import tempfile
 import time
+import urllib.request
 
 sys.dont_write_bytecode = True
 from lib.rtp import PACKET
@@ -37,6 +39,7 @@ from lib.server import PORTS, QUERY, TOP, configuration, program, wait_for
 BALANCER = ("127.0.1.10", PORTS[1])
 SERVERS = {f"satip{number}": f"127.0.1.1{number}" for number in range(1, 5)}
 KILLED = "satip2"
+EXPORTER = "http://127.0.0.1:8405/metrics"
 RECORDING_SECONDS = 120
 # A stretch of a stream this long is at one place of the recording alone.
 STRETCH = 64 * PACKET
@@ -138,7 +141,7 @@ class Run:
 
     def start_balancer(self):
         with open(f"{TOP}/examples/haproxy.cfg", encoding="ascii") as file:
-            text = file.read().replace("192.168.1.", "127.0.1.")
+            text = file.read().replace("192.168.1.", "127.0.1.").replace("/run/haproxy", self.folder)
         text = text.replace(":8875", ":18875").replace("port 554", "port 18554")
         with open(f"{self.folder}/haproxy.cfg", "w", encoding="ascii") as file:
             file.write(text)
@@ -173,6 +176,25 @@ class Run:
         return all(reader.is_served() for reader in self.readers)
 
 
+def ask_socket(folder, line):
+    """What HAProxy's statistics socket answers to a line."""
+    with socket.socket(socket.AF_UNIX, socket.SOCK_STREAM) as sock:
+        sock.settimeout(5)
+        sock.connect(f"{folder}/admin.sock")
+        sock.sendall(f"{line}\n".encode())
+        return b"".join(iter(lambda: sock.recv(65536), b"")).decode()
+
+
+def is_told(folder):
+    """Whether the exporter and the socket tell of each server; says what they tell."""
+    with urllib.request.urlopen(EXPORTER, timeout=5) as reply:
+        told = reply.read().decode()
+    up = re.findall(r'^haproxy_server_status{proxy="satip",server="(\w+)",state="UP"} 1', told, re.M)
+    listed = re.findall(r"^\d+ satip \d+ (\w+) ", ask_socket(folder, "show servers state"), re.M)
+    print(f"the exporter tells that {len(up)} servers are up, the socket names {len(listed)}")
+    return sorted(up) == sorted(listed) == sorted(SERVERS)
+
+
 def spread(readers):
     count = {name: 0 for name in SERVERS}
     for reader in readers:
@@ -205,6 +227,7 @@ def try_it(run, seconds):
         sys.exit(f"only {served} of {len(run.readers)} readers got a stream")
     print(f"{len(run.readers)} readers have a stream: {spread(run.readers)}")
     measure(run, seconds)
+    told = is_told(run.folder)
     losing = [reader for reader in run.readers if reader.server == KILLED]
     before = {id(reader): reader.connections for reader in run.readers}
     run.kill_server(KILLED)
@@ -214,7 +237,7 @@ def try_it(run, seconds):
     back = run.go_on(30, run.all_served)
     print(f"{KILLED} serves again: {spread(run.readers) if back else 'not all readers are back'}")
     run.go_on(seconds)
-    return judge(run.readers, losing, before) and back
+    return judge(run.readers, losing, before) and back and told
 
 
 def judge(readers, losing, before):

@@ -29,7 +29,7 @@ import time
 
 sys.dont_write_bytecode = True
 from lib.checks import Checks, seconds
-from lib.server import PACKETS_A_SECOND, PLAIN_PACKET, QUERY, configuration, program
+from lib.server import PACKETS_A_SECOND, QUERY, configuration, plain_packets, program
 from lib.system import System, cgroup_mount, make_package, make_system, run
 
 PORTS = 554, 8875
@@ -158,7 +158,7 @@ def main():
         package, version = check_package(checks, folder)
         root = make_system(folder)
         with open(f"{root}/srv/a.ts", "wb") as file:
-            file.write(PLAIN_PACKET * PACKETS_A_SECOND * 60)
+            file.write(plain_packets(PACKETS_A_SECOND * 60))
         shutil.copy(f"{folder}/{package}", f"{root}/root")
         system = System(root)
         try:

@@ -27,7 +27,7 @@ sys.dont_write_bytecode = True
 from lib.checks import Checks
 from lib.recorded import Recorded, check_recorded
 from lib.rtp import PACKETS_A_DATAGRAM, numbered, port_of, receiver
-from lib.server import PACKETS_A_SECOND, PLAIN_PACKET, Server, free_ports
+from lib.server import PACKETS_A_SECOND, Server, free_ports, plain_packets
 
 ADDRESS, STRANGER = "127.0.0.1", "127.0.0.2"
 SECONDS = 60
@@ -111,7 +111,7 @@ class StrangersRelay(Relay):
     def send_strange(self, count):
         for number in range(self.sent, self.sent + count):
             head = bytes((0x80, 33)) + number.to_bytes(2, "big") + bytes(4) + b"odd!"
-            datagram = head + PLAIN_PACKET * PACKETS_A_DATAGRAM
+            datagram = head + plain_packets(PACKETS_A_DATAGRAM)
             self.stranger.sendto(datagram, (ADDRESS, self.client_port))
         self.sent += count
 

@@ -3,8 +3,8 @@
 
     trials/silent_clients.py
 
-64 connections that send nothing wait before 8 workers, and a client after them has to be answered. A
-silent connection is ended after `timeout` seconds; one that asks in time isn't. A reader over HTTP,
+64 connections that send nothing wait before 8 workers, and a client after them has to be answered;
+so do 64 that send a part of a message, and a byte more each second. A silent connection is ended after `timeout` seconds; one that asks in time isn't. A reader over HTTP,
 in a network namespace whose link is cut, has to leave the only worker within 40 seconds. Ends with
 status 1 if something doesn't hold. Needs root, and the built program (trials/lib/server.py).
 
@@ -17,6 +17,7 @@ import os
 import socket
 import subprocess
 import sys
+import threading
 import time
 
 sys.dont_write_bytecode = True
@@ -55,6 +56,41 @@ def try_crowd(checks):
         took = server.options(60)
         text = f"after {CROWD} silent clients a client gets its reply: {seconds(took)}"
         checks.check(took is not None and took <= TIMEOUT + 6, text)
+        for line in lines:
+            line.close()
+
+
+def drip(lines, over):
+    """Sends a byte on each connection each second, until it is over."""
+    while not over.wait(1):
+        for line in lines:
+            try:
+                line.send(b"x")
+            except OSError:
+                pass
+
+
+def try_drips(checks):
+    """Clients that begin a message, and go on with it by a byte a second."""
+    with Server(ADDRESS) as server:
+        lines, over = [], threading.Event()
+        for _ in range(CROWD):
+            line = socket.socket()
+            line.setblocking(False)
+            line.connect_ex((ADDRESS, server.ports[0]))
+            lines.append(line)
+        dripper = threading.Thread(target=drip, args=(lines, over), daemon=True)
+        dripper.start()
+        time.sleep(1)
+        begun = time.monotonic()
+        # A connect at a full listener is tried again later and later, so a new one is made each time.
+        while (took := server.options(1)) is None and time.monotonic() < begun + 60:
+            pass
+        took = None if took is None else time.monotonic() - begun
+        over.set()
+        dripper.join()
+        text = f"after {CROWD} clients that end no message a client gets its reply: {seconds(took)}"
+        checks.check(took is not None and took <= 15, text)
         for line in lines:
             line.close()
 
@@ -116,6 +152,7 @@ def try_cut_link(checks):
 def main():
     checks = Checks()
     try_crowd(checks)
+    try_drips(checks)
     try_alone(checks)
     try_cut_link(checks)
     checks.end()

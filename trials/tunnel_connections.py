@@ -6,20 +6,25 @@
 The recording's packets are numbered. They go, for SECONDS each, 6 without the word, to one
 connection; to eight, one of which stops reading; to one that sends receiver reports between its
 requests; to one that sends a message byte by byte; and to one in parallel with 62 that stop reading,
-each of which the server has to end. A transport over UDP has to be refused with 461. Ends with status 1 if something doesn't hold. Needs
-the built program (trials/lib/server.py).
+each of which the server has to end.A transport over UDP has to be refused with 461.
+
+20 sessions of 34 Mbit/s, each silent for some seconds, are played by a request on another
+connection: none may be closed, and each first frame has to come within 100 ms. One session at 60, 80
+and 100 Mbit/s for 20 s may miss nothing. Ends with status 1 if something doesn't hold. Needs the
+built program (trials/lib/server.py).
 
 Packages: none
-Limit: 180 s
+Limit: 400 s
 """
 
+import select
 import sys
 import threading
 import time
 
 sys.dont_write_bytecode = True
 from lib.checks import Checks
-from lib.rtp import PACKET, missing_runs, numbered, payload
+from lib.rtp import PACKET, clocked, missing_runs, number_of, numbered, payload
 from lib.rtsp import BLANK, inside, over_udp
 from lib.server import PACKETS_A_SECOND, QUERY, Server
 
@@ -30,6 +35,8 @@ STOPPED = 62
 REPORT = bytes.fromhex("2401000880c9000100000001")
 # The seconds between two bytes of a slow message. The server finds that nothing came after 50 ms.
 BETWEEN = 0.02
+# The sessions that a request on another connection plays, and the rates of one session in Mbit/s.
+PLAYS, RATES = 20, (60, 80, 100)
 
 
 class Reader(threading.Thread):
@@ -160,12 +167,108 @@ def try_stopped_readers(checks, recording, length):
         checks.check(server.lives(), "the server lives after those that stopped")
 
 
+class Frames:
+    """What comes on a connection: frames on channel 0, by their count, gaps and bytes."""
+
+    def __init__(self, client):
+        self.line, self.rest = client.line, client.buffer
+        self.first = self.last = None
+        self.count = self.bytes = self.gaps = 0
+        self.is_ended = False
+
+    def read_for(self, length, until_first=False):
+        """Reads for some seconds, or until the first frame."""
+        end = time.monotonic() + length
+        self.line.setblocking(False)
+        while time.monotonic() < end and not self.is_ended:
+            if select.select([self.line], [], [], 0.05)[0]:
+                self.read()
+            if until_first and self.first:
+                return
+
+    def read(self):
+        try:
+            piece = self.line.recv(1 << 20)
+        except BlockingIOError:
+            return
+        except OSError:
+            piece = b""
+        self.is_ended = not piece
+        text, place = self.rest + piece, 0
+        while len(text) >= place + 4:
+            if text[place] != 36:
+                # A reply, without a body.
+                over = text.find(BLANK, place)
+                if over < 0:
+                    break
+                place = over + len(BLANK)
+                continue
+            over = place + 4 + int.from_bytes(text[place + 2 : place + 4], "big")
+            if len(text) < over:
+                break
+            if text[place + 1] == 0:
+                self.keep(text[place + 4 : over])
+            place = over
+        self.rest = text[place:]
+
+    def keep(self, datagram):
+        number = number_of(datagram)
+        self.gaps += self.last is not None and number != (self.last + 1) % 65536
+        self.first, self.last = self.first or time.monotonic(), number
+        self.count, self.bytes = self.count + 1, self.bytes + len(datagram) - 12
+
+
+def fast(megabits, seconds):
+    """A server of a recording of this rate, which repeats."""
+    recording = clocked(int(megabits * 1e6 / 8 / PACKET * seconds), megabits)
+    before = ("env", "SATIP_PACE=recording", "SATIP_REPEAT=1")
+    return Server(ADDRESS, workers=4, recording=recording, command="tunnel", before=before)
+
+
+def try_plays_from_elsewhere(checks):
+    """Sessions that are played by a request on another connection, after some silence."""
+    closed, late, longest = 0, 0, 0
+    with fast(34, 6) as server:
+        for place in range(PLAYS):
+            silent, other = server.client(), server.client()
+            target, session = silent.set_up(silent.url(QUERY), inside())
+            frames = Frames(silent)
+            time.sleep(2 + 0.05 * place)
+            begun = time.monotonic()
+            other.must("PLAY", target, f"Session: {session}")
+            frames.read_for(2, until_first=True)
+            took = (frames.first or begun + 2) - begun
+            frames.read_for(1)
+            closed, late, longest = closed + frames.is_ended, late + (took > 0.1), max(longest, took)
+            other.tear_down(target, session)
+            silent.close()
+            other.close()
+    checks.check(closed == 0, f"{closed} of {PLAYS} silent sessions were closed when they played")
+    text = f"{late} of {PLAYS} first frames came after 100 ms, the last after {longest * 1000:.0f} ms"
+    checks.check(late == 0, text)
+
+
+def try_rate(checks, megabits, length):
+    with fast(megabits, 4) as server:
+        client = server.client()
+        client.play(client.url(QUERY), inside())
+        frames = Frames(client)
+        frames.read_for(length)
+        client.close()
+    rate = frames.bytes * 8 / length / 1e6
+    text = f"{megabits} Mbit/s: {rate:.1f} came for {length} s, {frames.gaps} gaps"
+    checks.check(not frames.is_ended and frames.gaps == 0 and rate > megabits * 0.5, text)
+
+
 def main():
     length = int(sys.argv[1]) if len(sys.argv) > 1 else 6
     recording = numbered(PACKETS_A_SECOND * (8 * length + 60))
     checks = Checks()
     try_connections(checks, recording, length)
     try_stopped_readers(checks, recording, length)
+    try_plays_from_elsewhere(checks)
+    for megabits in RATES:
+        try_rate(checks, megabits, 20)
     checks.end()
 
 

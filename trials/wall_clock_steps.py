@@ -13,7 +13,7 @@ Packages: gcc libc6-dev
 Limit: 90 s
 """
 
-import email.utils
+import datetime
 import os
 import struct
 import sys
@@ -64,7 +64,7 @@ def try_steps(checks, rtp, rtcp, step):
 
 
 def try_server(checks, server, step):
-    moment = email.utils.parsedate_to_datetime(server.said().split(": ready")[0])
+    moment = datetime.datetime.fromisoformat(server.said().split("Z: ready")[0] + "+00:00")
     ahead = moment.timestamp() - time.time()
     text = f"the server sees a wall clock that is {ahead / DAY:.2f} days ahead"
     checks.check(abs(ahead - DAY) < 60, text)

@@ -132,6 +132,19 @@ def numbered(count):
     return b"".join(packets)
 
 
+def clocked(count, megabits):
+    """Packets of PID 256, each eighth with the program clock of a stream of this rate."""
+    packets = []
+    for number in range(count):
+        head, body = bytes((0x47, 1, 0, 0x10 | number % 16)), number.to_bytes(8, "big")
+        if number % 8 == 0:
+            base, extension = divmod(int(number * 8 * PACKET * 27 / megabits), 300)
+            clock = (base << 15 | 0x3F << 9 | extension).to_bytes(6, "big")
+            head, body = head[:3] + bytes((0x30 | number % 16, 7, 0x10)), clock + body
+        packets.append((head + body).ljust(PACKET, b"\xff"))
+    return b"".join(packets)
+
+
 def missing_runs(output, recording):
     """How many packets of a numbered recording are left out at each place; None if the output has
     others, or isn't in order."""

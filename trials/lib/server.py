@@ -6,6 +6,7 @@ for. Needs python3, and the Debian packages gcc and libc6-dev for WITHOUT.
 """
 
 import os
+import random
 import re
 import signal
 import socket
@@ -25,7 +26,7 @@ BUILT = os.path.join(TOP, "crates", "satip", "out", "satip")
 PORTS = 18554, 18875
 # 64 packets each 20 ms: the pace of a recording without SATIP_PACE=recording.
 PACKETS_A_SECOND = 3200
-PLAIN_PACKET = b"\x47\x01\x00\x10" + bytes(184)
+PLAIN_HEAD, PAYLOAD = b"\x47\x01\x00\x10", 184
 FRONT_END = """\
 [[frontend]]
 sources = [1]
@@ -54,6 +55,15 @@ def configuration(address, ports=PORTS, workers=8, timeout=60, fronts=1, files=(
     )
     muxes = [MULTIPLEX.format(freq=freq, file=file) for freq, file in zip(FREQUENCIES, files)]
     return head + FRONT_END * fronts + "".join(muxes)
+
+
+def plain_packets(count):
+    """Packets of PID 256 with random payloads, the same in each run; each second of them is the same."""
+    noise = random.Random(1).randbytes(PAYLOAD * PACKETS_A_SECOND)
+    each = (PLAIN_HEAD + noise[at : at + PAYLOAD] for at in range(0, len(noise), PAYLOAD))
+    whole, rest = divmod(count, PACKETS_A_SECOND)
+    second = b"".join(each)
+    return second * whole + second[: rest * (len(PLAIN_HEAD) + PAYLOAD)]
 
 
 def free_ports(address):
@@ -157,7 +167,7 @@ class Server:
         self.address, self.ports = address, ports or free_ports(address)
         for name in files:
             with open(self.path(name), "wb") as file:
-                file.write(recording or PLAIN_PACKET * PACKETS_A_SECOND * seconds)
+                file.write(recording or plain_packets(PACKETS_A_SECOND * seconds))
         self.config = self.path("satip.toml")
         with open(self.config, "w", encoding="ascii") as file:
             file.write(configuration(address, self.ports, workers, timeout, fronts, files))

@@ -13,7 +13,7 @@
 
 static int is_of_fault(const void *bytes, size_t count)
 {
-    return memmem(bytes, count, " GMT: ", 6) != NULL && memmem(bytes, count, ": ready at ", 11) == NULL;
+    return memmem(bytes, count, "Z: ", 3) != NULL && memmem(bytes, count, ": ready at ", 11) == NULL;
 }
 
 ssize_t write(int file, const void *bytes, size_t count)

@@ -3,7 +3,7 @@
 #![tactic(auto)]
 
 use satip_base::{ReadSource, Sink, Text, Want, WriteSink};
-use satip_real_desk::RealDesk;
+use satip_real_desk::{Carried, RealDesk};
 use satip_world::ConnEnd;
 use std::alloc::Global;
 use std::env::{Env, FillError};
@@ -25,7 +25,7 @@ fn main(rt: HostRuntime) -> ExitCode {
     };
     let mut input = ReadSource::new(rt.stdin());
     let mut output = WriteSink::new(rt.stdout());
-    let mut desk = RealDesk::new(rt, rt);
+    let mut desk = RealDesk::new(rt, rt, carried_by(&words));
     let mut ended = satip_program::satip(
         &rt,
         rt.alloc(),
@@ -40,6 +40,14 @@ fn main(rt: HostRuntime) -> ExitCode {
         wire.close(rt, ConnEnd::Done);
     }
     ExitCode::from(ended.status)
+}
+
+// Returns what the RTSP connections of a command carry.
+fn carried_by(words: &[Text]) -> Carried {
+    match words.first() {
+        Some(word) if word.bytes() == "tunnel".as_bytes() => Carried::Frames,
+        _ => Carried::Replies,
+    }
 }
 
 // Reads the words after the program's name, at most `WORDS`.

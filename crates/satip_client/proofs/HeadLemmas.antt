@@ -3,7 +3,8 @@ use Rattle.std.proofs.Common.{◌≡◌, inl, inr, ℕ, ◌+◌, ◌-◌, ◌<�
 use Rattle.std.proofs.lemmas.Bool.{cases_lt}
 use Rattle.std.proofs.lemmas.List.{length-map, length-replicate}
 use Rattle.httparse.specs.Grammar.{LineEnd, print_end, Field, print_section, ReadsSection}
-use Rattle.httparse.specs.Spans.{header_bytes, IsSectionAt}
+use Rattle.httparse.specs.Spans.{header_bytes, name_and_value, IsSectionAt}
+use Rattle.httparse.proofs.GrammarLemmas.{section_unique}
 use Rattle.httparse.specs.declared.spans.HeaderSpan.{HeaderSpan}
 use Rattle.std.specs.Str.Parse.{digits_value}
 use Rattle.httparse.proofs.PieceLemmas.{Stops-print_end, print_end_unique}
@@ -66,6 +67,26 @@ head-line {text} {h} has = record {
 }
 
 -- ---- one head
+
+-- a text has one head
+pub head-unique : {text : List ℕ} {h k : Head} {a b : ℕ} → HasHead text h a → HasHead text k b
+    → (length (print_head h) ≡ length (print_head k)) × (a ≡ b)
+head-unique {text} {h} {k} {a} {b} x y =
+    let line = line-unique text h.digits h.reason h.line_end (print_section h.fields h.last ++ x.rest) k.digits k.reason k.line_end
+    (print_section k.fields k.last ++ y.rest) (head-line x) (head-line y) in
+    let section = section_unique (print_section h.fields h.last ++ x.rest) h.fields k.fields h.last k.last x.rest y.rest (x.is_head.fields, refl)
+    (subst (λ (t : List ℕ). ReadsSection t k.fields k.last y.rest) (sym line.rest) (y.is_head.fields, refl)) in
+    let both : Some a ≡ Some b = sym x.is_head.body ∙ ap (λ (fs : List Field). body_length (map name_and_value fs)) section.0 ∙ y.is_head.body in (
+      omega (
+        arith,
+        ap length x.text_is,
+        length-append (print_head h) x.rest,
+        ap length y.text_is,
+        length-append (print_head k) y.rest,
+        ap length section.2,
+      ),
+      cc,
+    )
 
 module _ {text : List ℕ} {line : StatusLine} (at : IsLineAt text line) where
   line-size : line.end ≡ 12 + length at.reason + length (print_end at.end)

@@ -1,12 +1,16 @@
 -- A client that awaits a reply, receive by receive.
-use Rattle.std.proofs.Common.{◌≡◌, ◌⊎◌, inl, inr, ℕ, ◌+◌, ◌<◌, ◌≤◌, refl, length-append, true, List, [], ◌++◌, length, sym, ap, ◌∙◌, subst, arith, append_assoc, append-nil, Result, Ok, Err}
+use Rattle.std.proofs.Common.{◌≡◌, ◌⊎◌, inl, inr, ℕ, ◌+◌, ◌<◌, ◌≤◌, refl, length-append, true, List, [], ◌∷◌, ◌++◌, length, sym, ap, ◌∙◌, subst, arith, append_assoc, append-nil, replicate, Result, Ok, Err}
 use Rattle.std.proofs.lemmas.Bool.{cases_lt}
 use Rattle.satip_world.specs.Counts.{Rises}
 use Rattle.satip_world.specs.Lines.{Line, Grew, SentAll, WasIdle}
 use Rattle.satip_client.specs.Heads.{Head, HasReply, print_head}
 use Rattle.satip_client.specs.Replies.{NeverHasReply}
 use Rattle.satip_client.proofs.Cuts.{cut, inside-shorter}
-use Rattle.satip_client.specs.Waits.{IsOpen, IsSettled, IsUpToPiece, WasIdleFor, TookIn, TookPiece, Asked, Asks, Unanswered, AskFailed, idle_limit}
+use Rattle.httparse.specs.declared.spans.HeaderSpan.{HeaderSpan}
+use Rattle.satip_client.specs.declared.heads.HeadRead.{HeadRead}
+use Rattle.satip_client.specs.Places.{IsHeadAt}
+use Rattle.satip_client.proofs.HeadLemmas.{head-more, head-unique, reply-more}
+use Rattle.satip_client.specs.Waits.{IsOpen, StaysOpen, IsSettled, IsUpToPiece, WasIdleFor, TookIn, TookPiece, Asked, Asks, Unanswered, AskFailed, idle_limit}
 use Rattle.satip_client.specs.declared.ending.RecordEnd.{RecordEnd}
 use Rattle.satip_client.specs.declared.ending.RecordEnd.TheVariants.{Done, OutputFault, Refused, BadReply, Silent, PeerFault, Closed, OutOfMemory}
 use Rattle.satip_client.proofs.PulseLemmas.{grew_then, grew_none, faults_then}
@@ -34,6 +38,38 @@ open_is_short text o =
 
 pub settled_bad : (text : List ℕ) → NeverHasReply text → IsSettled text
 settled_bad text never o = let c = o.can_become in never c.0 c.1 c.2 c.3
+
+-- ---- how long a text stays open
+
+pub open_still : (text : List ℕ) (needed : ℕ) → StaysOpen text needed → length text < needed → IsOpen text
+open_still text needed stays short =
+    let same : text ++ [] ≡ text = append-nil text in
+    subst IsOpen same (stays [] (subst (λ (t : List ℕ). length t < needed) (sym same) short))
+
+pub stays_more : (text more : List ℕ) (needed : ℕ) → StaysOpen text needed → StaysOpen (text ++ more) needed
+stays_more text more needed stays = λ others short.
+    let same : (text ++ more) ++ others ≡ text ++ (more ++ others) = append_assoc text more others in
+    subst IsOpen (sym same) (stays (more ++ others) (subst (λ (t : List ℕ). length t < needed) same short))
+
+-- up to the next byte
+pub stays_as_it_is : (text : List ℕ) → IsOpen text → StaysOpen text (length text + 1)
+stays_as_it_is text o = λ more short. by_more more short
+  where
+    by_more : (more : List ℕ) → length (text ++ more) < length text + 1 → IsOpen (text ++ more)
+    by_more [] short = subst IsOpen (sym (append-nil text)) o
+    by_more (x ∷ xs) short = absurd (omega (arith, short, length-append text (x ∷ xs)))
+
+-- up to the end of the body
+pub stays_for_body : (text : List ℕ) (headers : List HeaderSpan) (read : HeadRead) → ((h : Head) × IsHeadAt text headers read h read.body)
+    → StaysOpen text (read.end + read.body)
+stays_for_body text headers read found = λ more short.
+    let has = head-more more found.1.has in record {
+      no_reply = λ k size reply.
+          let same = head-unique has reply.has_head in omega (arith, same.0, same.1, found.1.end, reply.whole, short);
+      can_become = (replicate read.body 0, found.0, read.body, reply-more has);
+    }
+
+-- ---- what is received
 
 -- bytes were received, and no piece after one that settled them
 abbrev pub TookUpTo : (tells : Type 0) (o n : Line) (before now : List ℕ) → Type 0

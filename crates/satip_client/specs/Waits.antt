@@ -14,6 +14,10 @@ pub record IsOpen (text : List ℕ) : Type 0 where
   pub no_reply : HasNoReply text
   pub can_become : CanBecomeReply text
 
+-- with any bytes more that make up fewer than so many, the text is open
+abbrev pub StaysOpen : List ℕ → ℕ → Type 0
+StaysOpen text needed = (more : List ℕ) → length (text ++ more) < needed → IsOpen (text ++ more)
+
 -- the text begins with a whole reply, or no more bytes make it begin with one
 abbrev pub IsSettled : List ℕ → Type 0
 IsSettled text = IsOpen text → ⊥

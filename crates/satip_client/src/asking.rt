@@ -1,11 +1,11 @@
 //! A request and its reply.
 
-ghost use Rattle.std.specs.Prelude.{◌≡◌, ◌<◌, [], false, length, IsTrue};
-ghost use Rattle.satip_client.specs.Waits.{Asks, IsOpen, IsSettled};
+ghost use Rattle.std.specs.Prelude.{◌<◌, [], length, IfNone, IfSome};
+ghost use Rattle.satip_client.specs.Waits.{Asks, IsOpen, IsSettled, StaysOpen};
 
 use crate::ending::RecordEnd;
 use crate::heard::Heard;
-use crate::reply::{ReplyRead, read_reply};
+use crate::reply::{ReplyRead, bytes_needed, read_reply};
 use satip_base::Put;
 use satip_world::{Conn, Received};
 
@@ -28,10 +28,12 @@ fn await_reply<W: Conn>(wire: &mut W, heard: &mut Heard) -> Result<(), RecordEnd
         heard.old heard.new result }
 {
     let mut idles: u32 = 0;
+    let mut needed = 0;
     'turns: loop {
-        if is_settled(heard.bytes()) {
+        let Some(more) = look(heard.bytes(), needed) else {
             return Ok(());
-        }
+        };
+        needed = more;
         match heard.take_in(wire) {
             Received::Got(_) => {}
             Received::Idle => {
@@ -46,14 +48,21 @@ fn await_reply<W: Conn>(wire: &mut W, heard: &mut Heard) -> Result<(), RecordEnd
     }
 }
 
-fn is_settled(text: &[u8]) -> bool
-    ensures settled { IsTrue result → IsSettled text.now }
-    ensures open { result ≡ false → IsOpen text.now }
-    ensures short { result ≡ false → length text.now < 12288 }
+// Returns the number of bytes before which the text stays open; `None` if it is settled. A text with
+// fewer than `needed` bytes isn't read.
+fn look(text: &[u8], needed: usize) -> Option<usize>
+    requires waits { StaysOpen text.now needed }
+    ensures settled { IfNone result (IsSettled text.now) }
+    ensures is_open { IfSome result (λ more. IsOpen text.now) }
+    ensures short { IfSome result (λ more. length text.now < 12288) }
+    ensures stays { IfSome result (StaysOpen text.now) }
 {
+    if text.len() < needed {
+        return Some(needed);
+    }
     match read_reply(text) {
-        ReplyRead::Reply(_) => true,
-        ReplyRead::More => false,
-        ReplyRead::Bad => true,
+        ReplyRead::Reply(_) => None,
+        ReplyRead::More => Some(bytes_needed(text)),
+        ReplyRead::Bad => None,
     }
 }

@@ -3,6 +3,7 @@ ghost use Rattle.std.specs.Prelude.{◌≡◌, ℕ, ◌+◌, ◌<◌, ◌≤◌,
 ghost use Rattle.satip_client.specs.Heads.{Head, HasHead, print_head};
 ghost use Rattle.satip_client.specs.Places.{HasSomeHead, IsHeadAt, IsHeadWithin};
 ghost use Rattle.satip_client.specs.Replies.{IsReadAs, Says};
+ghost use Rattle.satip_client.specs.Waits.{IsOpen, StaysOpen};
 
 use crate::draft::Draft;
 use crate::fields::{number_u16, number_u32, session_of, timeout_of};
@@ -52,6 +53,19 @@ pub fn read_reply(bytes: &[u8]) -> ReplyRead<'_>
         return ReplyRead::More;
     }
     ReplyRead::Reply(view_of(bytes, &headers, head))
+}
+
+/// Returns the number of bytes before which an open text stays open. It is the length of the reply
+/// once its head is whole, and before that one more than the text has.
+pub(crate) fn bytes_needed(text: &[u8]) -> usize
+    requires is_open { IsOpen text.now }
+    ensures stays { StaysOpen text.now result }
+{
+    let mut headers = [EMPTY_HEADER_SPAN; HEADER_LIMIT];
+    match read_head(text, &mut headers) {
+        Some(head) => head.end + head.body,
+        None => text.len() + 1,
+    }
 }
 
 fn view_of<'a>(

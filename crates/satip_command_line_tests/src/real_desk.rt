@@ -10,7 +10,7 @@ use satip_fixtures::texts::{OPTIONS, OPTIONS_REPLY};
 use satip_memory::{MemorySink, MemorySource};
 use satip_memory_desk::texts_of;
 use satip_program::satip;
-use satip_real_desk::RealDesk;
+use satip_real_desk::{Carried, RealDesk};
 use std::alloc::Global;
 use std::io::{Read, Write};
 use std::net::{Ipv4Addr, SocketAddr, TcpStream};
@@ -87,7 +87,7 @@ fn check_serve<R: Threads + Wait + Sync + Abort + Copy + Drop + Send>(
 ) {
     let mut streams = streams_of(&rt, host.alloc(), row.name);
     fs::write(&host, row.name, row.text).expect(&rt, "file");
-    let mut desk = RealDesk::new(host, rt);
+    let mut desk = RealDesk::new(host, rt, Carried::Replies);
     let end = end_of(&rt, host.alloc(), &mut streams, &mut desk);
     fs::remove_file(&host, row.name).expect(&rt, "file");
     check(&rt, row.name, end, (row.status, true, row.left, false));
@@ -96,8 +96,8 @@ fn check_serve<R: Threads + Wait + Sync + Abort + Copy + Drop + Send>(
 }
 
 // Tells whether the one reply to one request came, and then the end, once the server listens.
-fn is_answered(rt: HostRuntime) -> bool {
-    let at = SocketAddr::from((Ipv4Addr::LOCALHOST, 18554));
+fn is_answered(rt: HostRuntime, port: u16) -> bool {
+    let at = SocketAddr::from((Ipv4Addr::LOCALHOST, port));
     for _ in 0..500 {
         match TcpStream::connect(&rt, at) {
             Ok(stream) => return asks(stream),
@@ -127,11 +127,37 @@ const SERVED: &Row = &Row {
     errors: b"",
 };
 
+// Serves by a row, and asserts that a request is answered.
+fn check_answered<R: Threads + Wait + Sync + Abort + Copy + Drop + Send>(
+    host: HostRuntime,
+    rt: R,
+    row: &Row,
+    port: u16,
+) {
+    let client = thread::spawn(&rt, move || is_answered(host, port)).expect(&rt, "thread");
+    check_serve(host, rt, row);
+    check(&rt, "answered", client.join(&rt), true);
+}
+
 #[test]
 fn a_request_is_answered_over_loopback(rt: HostRuntime) {
-    let client = thread::spawn(&rt, move || is_answered(rt)).expect(&rt, "thread");
-    check_serve(rt, rt, SERVED);
-    check(&rt, "answered", client.join(&rt), true);
+    check_answered(rt, rt, SERVED, 18554);
+}
+
+const RECORDING: &Row = &Row {
+    name: "recording.toml",
+    text: b"address = \"127.0.0.1\"\nrtsp_port = 18556\nhttp_port = 18877\nworkers = 1\n\
+[[frontend]]\nsources = [1]\nsystems = [\"dvbs\"]\n\
+[[mux]]\nsrc = 1\nfreq = \"11494\"\npol = \"h\"\n\
+msys = \"dvbs\"\nsr = 22000\nfile = \"no/such/recording.ts\"\n",
+    status: 0,
+    left: true,
+    errors: b"",
+};
+
+#[test]
+fn a_server_starts_without_a_recording(rt: HostRuntime) {
+    check_answered(rt, rt, RECORDING, 18556);
 }
 
 // A serve to which the desk gives no kits.
@@ -142,20 +168,6 @@ const WITHOUT_KITS: Row = Row {
     left: false,
     errors: b"doors fault\n",
 };
-
-const RECORDING: &Row = &Row {
-    name: "recording.toml",
-    text: b"address = \"127.0.0.1\"\nrtsp_port = 18556\nhttp_port = 18877\n\
-[[frontend]]\nsources = [1]\nsystems = [\"dvbs\"]\n\
-[[mux]]\nsrc = 1\nfreq = \"11494\"\npol = \"h\"\n\
-msys = \"dvbs\"\nsr = 22000\nfile = \"no/such/recording.ts\"\n",
-    ..WITHOUT_KITS
-};
-
-#[test]
-fn a_recording_that_cannot_be_opened_is_a_fault(rt: HostRuntime) {
-    check_serve(rt, rt, RECORDING);
-}
 
 // The address is one of those for documentation, which no machine has.
 const ADDRESS: &Row = &Row {
@@ -204,7 +216,7 @@ fn check_file(rt: &impl Abort, host: HostRuntime, name: &str, text: &[u8]) {
 fn a_journal_is_a_file(rt: HostRuntime) {
     let earlier: &[u8] = b"of an earlier server, and longer than what comes";
     fs::write(&rt, "journal.7", earlier).expect(&rt, "file");
-    let mut desk = RealDesk::new(rt, rt);
+    let mut desk = RealDesk::new(rt, rt, Carried::Replies);
     put_lines(&rt, &mut desk);
     check_file(&rt, rt, "journal.7", b"start 0\nentry 0 7 08\n");
     check_file(&rt, rt, "journal.12", b"entry 1 12 08\n");

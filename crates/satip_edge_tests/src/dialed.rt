@@ -5,10 +5,11 @@ use crate::sockets::{
     LOCALHOST, bind, check_heard, check_inlet, check_received, listen_at, local, socket_addr,
 };
 use satip_base::{Address, Peer, Put};
+use satip_datagrams::RealInlet;
 use satip_desk::Desk;
 use satip_host::RealClock;
-use satip_real::{RealConn, RealInlet};
-use satip_real_desk::RealDesk;
+use satip_real::RealConn;
+use satip_real_desk::{Carried, RealDesk};
 use satip_world::{Clock, Conn, ConnEnd, Inlet, Received};
 use std::io::{ErrorKind, Read, Write};
 use std::net::{SocketAddr, TcpStream, UdpSocket};
@@ -113,7 +114,7 @@ fn make_client<R: Wait + Abort + Copy + Drop + Send>(
     rt: R,
     port: u16,
 ) -> Client {
-    let mut desk = RealDesk::new(host, rt);
+    let mut desk = RealDesk::new(host, rt, Carried::Replies);
     let moment = desk.moment();
     let to = Address {
         ip: 0x7f00_0002,

@@ -1,12 +1,13 @@
 //! Doors over loopback, and the connections that come by them.
 
-use crate::checks::check;
+use crate::checks::{check, check_within};
 use crate::sockets::{
-    LOCALHOST, check_heard, check_received, connect, listen, no_arrivals, receive, socket_addr,
+    LOCALHOST, check_heard, check_received, connect, listen, listen_with, no_arrivals, receive,
+    socket_addr,
 };
 use satip_base::{Peer, Put};
-use satip_host::{Start, Starts};
-use satip_real::{BindFault, Listeners, RealConn, RealDoors};
+use satip_host::{Arrivals, Start, Starts};
+use satip_real::{BindFault, Carried, Listeners, RealConn, RealDoors};
 use satip_world::{Conn, ConnEnd, Door, DoorKind, Doors, Received};
 use std::alloc::Global;
 use std::io::{Read, Write};
@@ -15,9 +16,10 @@ use std::process::Abort;
 use std::sync::{Arc, Wait};
 use std::thread;
 use std::thread::Threads;
+use std::time::{Duration, Instant};
 
-// Turns of the doors until one is another than Idle.
-fn next_come(doors: &mut RealDoors) -> Door<RealConn> {
+/// Turns of the doors until one is another than Idle.
+pub(crate) fn next_come(doors: &mut RealDoors) -> Door<RealConn> {
     for _ in 0..100 {
         match doors.next() {
             Door::Idle => (),
@@ -30,8 +32,8 @@ fn next_come(doors: &mut RealDoors) -> Door<RealConn> {
 /// What doors say of a client, and its connection.
 pub(crate) type Came = (DoorKind, Peer, RealConn);
 
-// Returns the next client at the doors.
-fn next_client(rt: &impl Abort, doors: &mut RealDoors) -> Came {
+/// Returns the next client at the doors.
+pub(crate) fn next_client(rt: &impl Abort, doors: &mut RealDoors) -> Came {
     match next_come(doors) {
         Door::Came { kind, peer, conn } => (kind, peer, conn),
         _ => panic!(rt; "no connection"),
@@ -67,7 +69,16 @@ struct Server {
 // Opens doors, which give up clients that are silent for `timeout_s` seconds, and end after `limit`
 // connections.
 fn open_doors(rt: &impl Abort, host: HostRuntime, timeout_s: u32, limit: u32) -> Server {
-    let listeners = listen(rt, host);
+    serve_at(rt, host, listen(rt, host), timeout_s, limit)
+}
+
+fn serve_at(
+    rt: &impl Abort,
+    host: HostRuntime,
+    listeners: Listeners,
+    timeout_s: u32,
+    limit: u32,
+) -> Server {
     let rtsp = socket_addr(1, listeners.rtsp_port().expect(rt, "port"));
     let http = socket_addr(1, listeners.http_port().expect(rt, "port"));
     let listeners = Arc::new(host.alloc(), listeners).expect(rt, "out of memory");
@@ -85,11 +96,21 @@ pub(crate) fn meet(
     host: HostRuntime,
     timeout_s: u32,
 ) -> (RealDoors, TcpStream, Came) {
+    meet_at(rt, host, listen(rt, host), timeout_s)
+}
+
+/// Opens doors at these listeners, and connects a client for RTSP, which comes by them.
+pub(crate) fn meet_at(
+    rt: &impl Abort,
+    host: HostRuntime,
+    listeners: Listeners,
+    timeout_s: u32,
+) -> (RealDoors, TcpStream, Came) {
     let Server {
         mut doors,
         rtsp,
         ..
-    } = open_doors(rt, host, timeout_s, 0);
+    } = serve_at(rt, host, listeners, timeout_s, 0);
     let client = connect(rt, host, rtsp);
     let came = next_client(rt, &mut doors);
     (doors, client, came)
@@ -209,7 +230,71 @@ fn a_silent_client_is_given_up(rt: HostRuntime) {
     let (_, _, mut conn) = came;
     client.write_all(b"ask").expect(&rt, "request");
     check_heard(&rt, "request", &mut conn, b"ask");
-    check(&rt, "once", conn.receive(&mut [0; 16]), Received::Idle);
+    check_received(&rt, "silent", &mut conn, &[Received::Failed]);
+}
+
+/// Returns the milliseconds since a moment.
+pub(crate) fn elapsed_ms(rt: &impl Abort, host: HostRuntime, begin: &Instant) -> u64 {
+    let elapsed = begin.elapsed(&host).expect(rt, "clock");
+    u64::try_from(elapsed.as_millis()).unwrap_or(0)
+}
+
+// Returns the milliseconds until a connection fails.
+fn time_failure(rt: &impl Abort, host: HostRuntime, conn: &mut RealConn) -> u64 {
+    let begin = Instant::now(&host).expect(rt, "clock");
+    for _ in 0..100_000 {
+        if conn.receive(&mut [0; 16]) == Received::Failed {
+            break;
+        }
+    }
+    elapsed_ms(rt, host, &begin)
+}
+
+// Connects two clients. Returns the first, and the connection by which it comes, while the second
+// waits at the doors.
+fn meet_first_of_two(rt: &impl Abort, host: HostRuntime) -> (Server, [TcpStream; 2], RealConn) {
+    let mut server = open_doors(rt, host, 60, 0);
+    let first = connect(rt, host, server.rtsp);
+    let (_, _, conn) = next_client(rt, &mut server.doors);
+    let second = connect(rt, host, server.rtsp);
+    (server, [first, second], conn)
+}
+
+#[test]
+fn a_client_that_sends_nothing_lets_others_in(rt: HostRuntime) {
+    let (_server, _clients, mut conn) = meet_first_of_two(&rt, rt);
+    let failed_ms = time_failure(&rt, rt, &mut conn);
+    check_within(&rt, "no byte", failed_ms, 1_900, 20_000);
+}
+
+// Sends a byte each 100 ms, until the server has given up.
+fn drip(host: HostRuntime, client: TcpStream) {
+    let mut client = client;
+    for _ in 0..600 {
+        if client.write_all(b"x").is_err() {
+            return;
+        }
+        thread::sleep(&host, Duration::from_millis(100));
+    }
+}
+
+#[test]
+fn a_client_that_ends_no_message_lets_others_in(rt: HostRuntime) {
+    let (_server, [first, _second], mut conn) = meet_first_of_two(&rt, rt);
+    let dripper = thread::spawn(&rt, move || drip(rt, first)).expect(&rt, "thread");
+    let failed_ms = time_failure(&rt, rt, &mut conn);
+    drop(conn);
+    dripper.join(&rt);
+    check_within(&rt, "no end", failed_ms, 9_900, 50_000);
+}
+
+#[test]
+fn a_client_that_is_sent_something_is_not_silent(rt: HostRuntime) {
+    let (_doors, _client, (_, _, mut conn)) = meet(&rt, rt, 2);
+    for _ in 0..4 {
+        check(&rt, "sent", conn.send(b"$"), Put::Whole);
+        check(&rt, "idle", conn.receive(&mut [0; 16]), Received::Idle);
+    }
     check_received(&rt, "silent", &mut conn, &[Received::Failed]);
 }
 
@@ -222,18 +307,20 @@ fn ask_once(rt: &impl Abort, host: HostRuntime, server: SocketAddr) -> TcpStream
 }
 
 #[test]
-fn a_client_that_left_is_dropped(rt: HostRuntime) {
+fn a_client_that_left_counts(rt: HostRuntime) {
     let Server {
         mut doors,
         rtsp,
         ..
-    } = open_doors(&rt, rt, 60, 0);
+    } = open_doors(&rt, rt, 60, 2);
     drop(connect(&rt, rt, rtsp));
     let _client = ask_once(&rt, rt, rtsp);
     let (_, _, mut conn) = next_client(&rt, &mut doors);
+    check_received(&rt, "left", &mut conn, &[Received::End]);
+    let (_, _, mut conn) = next_client(&rt, &mut doors);
     check_heard(&rt, "request", &mut conn, b"ask");
     check_received(&rt, "shut down", &mut conn, &[Received::End]);
-    check_idle(&rt, "after the client", &mut doors);
+    check_end(&rt, "after two clients", &mut doors);
 }
 
 // Writes a megabyte, and reads the reply.
@@ -259,28 +346,64 @@ fn a_client_that_still_sends_gets_its_last_reply(rt: HostRuntime) {
     check(&rt, "its reply", asker.join(&rt), true);
 }
 
+// Opens doors that end after one connection, and connects a client, which comes by them. Returns
+// the count of their arrivals too.
+fn meet_once(rt: &impl Abort, host: HostRuntime) -> (Arc<Arrivals>, RealDoors, TcpStream, Came) {
+    let arrivals = no_arrivals(rt, host);
+    let counted = Arc::try_clone(&arrivals).expect(rt, "another owner");
+    let listeners = listen_with(rt, host, counted, Carried::Replies);
+    let mut server = serve_at(rt, host, listeners, 60, 1);
+    let client = connect(rt, host, server.rtsp);
+    let came = next_client(rt, &mut server.doors);
+    (arrivals, server.doors, client, came)
+}
+
 #[test]
-fn bytes_and_the_end_of_doors_are_arrivals(rt: HostRuntime) {
-    let arrivals = no_arrivals(&rt, rt);
-    let counted = Arc::try_clone(&arrivals).expect(&rt, "another owner");
-    let listeners = Listeners::bind(&rt, LOCALHOST, 0, 0, 8, counted).expect(&rt, "listeners");
-    let rtsp = socket_addr(1, listeners.rtsp_port().expect(&rt, "port"));
-    let listeners = Arc::new(rt.alloc(), listeners).expect(&rt, "out of memory");
-    let mut doors = RealDoors::new(rt, start(&rt, rt.alloc()), listeners, 60, 1);
-    let mut client = connect(&rt, rt, rtsp);
-    let (kind, peer, mut conn) = next_client(&rt, &mut doors);
-    check(&rt, "no byte yet", arrivals.count(), 0);
-    client.write_all(b"a").expect(&rt, "a byte");
-    check_received(&rt, "byte", &mut conn, &[Received::Got(1)]);
-    check(&rt, "a byte", arrivals.count(), 1);
+fn pieces_and_the_end_of_doors_are_arrivals(rt: HostRuntime) {
+    let (arrivals, mut doors, mut client, came) = meet_once(&rt, rt);
+    let (kind, peer, mut conn) = came;
+    for (name, before, after) in [("first", 0, 0), ("second", 0, 1)] {
+        check(&rt, name, arrivals.count(), before);
+        client.write_all(b"a").expect(&rt, "a byte");
+        check_received(&rt, name, &mut conn, &[Received::Got(1)]);
+        check(&rt, name, arrivals.count(), after);
+    }
     doors.back(conn, kind, peer, ConnEnd::ReadFault);
+    check(&rt, "back", (arrivals.count(), arrivals.ends()), (2, 0));
     check_end(&rt, "doors", &mut doors);
-    check(&rt, "the end", arrivals.count(), 2);
+    check(&rt, "the end", (arrivals.count(), arrivals.ends()), (3, 1));
+}
+
+// Waits for up to 5 s for an arrival, and ends the client. Returns whether it came.
+fn await_arrival(host: HostRuntime, arrivals: &Arrivals, client: TcpStream) -> bool {
+    for _ in 0..500 {
+        if arrivals.count() > 0 {
+            break;
+        }
+        thread::sleep(&host, Duration::from_millis(10));
+    }
+    drop(client);
+    arrivals.count() > 0
+}
+
+#[test]
+fn events_before_a_send_that_waits_are_shown(rt: HostRuntime) {
+    let (arrivals, _doors, mut client, (_, _, mut conn)) = meet_once(&rt, rt);
+    client.write_all(b"ask").expect(&rt, "request");
+    check_heard(&rt, "request", &mut conn, b"ask");
+    let text = vec![in rt.alloc(); 7; 16777216].expect(&rt, "out of memory");
+    let (put, came) = thread::join(
+        &rt,
+        || conn.send(&text),
+        || await_arrival(rt, &arrivals, client),
+    );
+    check(&rt, "sent", (put, came), (Put::Failed, true));
 }
 
 // Returns the listener that can't be bound.
 fn bind_fault(rt: &impl Abort, host: HostRuntime, ip: u32, http_port: u16) -> &'static str {
-    match Listeners::bind(&host, ip, 0, http_port, 8, no_arrivals(rt, host)) {
+    let arrivals = no_arrivals(rt, host);
+    match Listeners::bind(&host, ip, 0, http_port, 8, arrivals, Carried::Replies) {
         Ok(_) => "none",
         Err(BindFault::Rtsp(_)) => "RTSP",
         Err(BindFault::Http(_)) => "HTTP",

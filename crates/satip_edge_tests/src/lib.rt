@@ -1,4 +1,4 @@
-//! Tests sockets over loopback, recordings in files, the system's clocks and the kits.
+//! Tests sockets over loopback, the system's clocks and the kits.
 #![tactic(auto)]
 
 #[cfg(test)]
@@ -12,12 +12,12 @@ mod doors;
 #[cfg(test)]
 mod kits;
 #[cfg(test)]
-mod lulls;
-#[cfg(test)]
 mod outlets;
-#[cfg(test)]
-mod recordings;
 #[cfg(test)]
 mod sending;
 #[cfg(test)]
 mod sockets;
+#[cfg(test)]
+mod stops;
+#[cfg(test)]
+mod waits;

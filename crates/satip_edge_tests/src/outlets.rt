@@ -3,7 +3,7 @@
 use crate::checks::check;
 use crate::sockets::{LOCALHOST, bind, local};
 use satip_base::Put;
-use satip_real::{RealOutlet, SharedSocket};
+use satip_datagrams::{RealOutlet, SharedSocket};
 use satip_world::Outlet;
 use std::net::UdpSocket;
 use std::process::Abort;

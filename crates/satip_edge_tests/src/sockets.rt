@@ -2,8 +2,9 @@
 
 use crate::checks::check;
 use satip_base::Address;
+use satip_datagrams::RealInlet;
 use satip_host::Arrivals;
-use satip_real::{Listeners, RealConn, RealInlet};
+use satip_real::{Carried, Listeners, RealConn};
 use satip_world::{Conn, Inlet, Received};
 use std::net::{Ipv4Addr, SocketAddr, TcpListener, TcpStream, UdpSocket};
 use std::process::Abort;
@@ -31,9 +32,19 @@ pub(crate) fn no_arrivals(rt: &impl Abort, host: HostRuntime) -> Arc<Arrivals> {
     Arc::new(host.alloc(), arrivals).expect(rt, "out of memory")
 }
 
-/// Binds the listeners of a server at free ports of loopback.
+/// Binds the listeners of a server at free ports of loopback. Replies alone go to its clients.
 pub(crate) fn listen(rt: &impl Abort, host: HostRuntime) -> Listeners {
-    Listeners::bind(&host, LOCALHOST, 0, 0, 8, no_arrivals(rt, host)).expect(rt, "listeners")
+    listen_with(rt, host, no_arrivals(rt, host), Carried::Replies)
+}
+
+/// Binds listeners that count arrivals there, and whose RTSP connections carry this.
+pub(crate) fn listen_with(
+    rt: &impl Abort,
+    host: HostRuntime,
+    arrivals: Arc<Arrivals>,
+    carried: Carried,
+) -> Listeners {
+    Listeners::bind(&host, LOCALHOST, 0, 0, 8, arrivals, carried).expect(rt, "listeners")
 }
 
 /// Binds a listener at a free port of 127.0.0.`last`. Returns its port too.

@@ -9,11 +9,11 @@ use Rattle.std.specs.List.{list_any}
 use Rattle.satip_pids.specs.Pids.{Pids, has_pid}
 use Rattle.satip_flow.specs.Subscription.{Subscription, has_slot, is_at, is_of, takes, changed}
 use Rattle.satip_flow.specs.Subscriptions.{SlotsApart, IsFrontOrNone, of_slot, put, without}
-use Rattle.satip_flow.specs.Rows.{bit, marks, holds_of, with_slots, IsExact, IsMarked, AreSlotsOf, IsGroup, Shows, KeepsSlots, SamePids}
+use Rattle.satip_flow.specs.Rows.{bit, marks, holds_of, with_slots, IsExact, IsMarked, AreSlotsOf, IsGroup, Shows, KeepsSlots, SamePids, IsAlike, IsLike}
 use Rattle.satip_flow.proofs.Slots.{read_same, slot_below, none_found, not_after}
 use Rattle.satip_flow.proofs.Sends.{max-marks}
 use Rattle.satip_flow.proofs.SlotMaps.{same_one, Passing, passing, at_slot, found_at, of_map, made_from, of_put_same, of_put_other, of_without_same, of_without_other}
-use Rattle.satip_flow.proofs.Rewriting.{with_kept, cleared}
+use Rattle.satip_flow.proofs.Rewriting.{with_kept, with_shown}
 
 pub bit_true : (t : Bool) → bit t ≡ 1 → t ≡ true
 bit_true true h = refl
@@ -81,8 +81,8 @@ nobody_shown rows own slot xs pids one free exact = λ f pid k low below h.
 -- one more
 pub marked_put : (old new : List ℕ) (known own : ℕ) (xs : List Subscription) (s : Subscription) → own < 2 ^ 64 → IsOne own s.place.slot
     → list_any (has_slot s.place.slot) xs ≡ false → IsFrontOrNone s.front → Shows new own s.front s.pids → KeepsSlots own old new
-    → IsMarked old known xs → IsMarked new (with_slots own false known) (put s xs)
-marked_put old new known own xs s fits one free front shows keeps marked = record {
+    → (t : Bool) → (t ≡ true → IsLike known xs s.place.stream s.front s.pids) → IsMarked old known xs → IsMarked new (with_slots own t known) (put s xs)
+marked_put old new known own xs s fits one free front shows keeps t like marked = record {
   fronts = λ k t e.
       elim (cases_eq s.place.slot k) [
         | inl same ↦ subst (λ s. IsFrontOrNone s.front) (same_one s t (sym (of_put_same k s xs free same) ∙ e)) front
@@ -98,20 +98,39 @@ marked_put old new known own xs s fits one free front shows keeps marked = recor
             ∙ sym (ap (λ o. bit (holds_of (takes f pid) o)) (of_put_other k s xs free differs))
       ];
   alike = λ j k a b j_below k_below j_is k_is stream j_known k_known.
-      let j_old = old_known j j_below j_known in
-      let k_old = old_known k k_below k_known in
-      marked.alike j k a b j_below k_below (sym (of_put_other j s xs free j_old.0) ∙ j_is) (sym (of_put_other k s xs free k_old.0) ∙ k_is) stream
-      j_old.1 k_old.1;
+      elim (cases_eq s.place.slot j) [
+        | inl j_own ↦
+            let a_is : s ≡ a = same_one s a (sym (of_put_same j s xs free j_own) ∙ j_is) in
+            elim (cases_eq s.place.slot k) [
+              | inl k_own ↦
+                  let b_is : s ≡ b = same_one s b (sym (of_put_same k s xs free k_own) ∙ k_is) in
+                  let both : a ≡ b = sym a_is ∙ b_is in
+                  (ap (λ s. s.front) both, λ pid h. ap (λ s. has_pid s.pids pid) both)
+              | inr k_other ↦
+                  let ours = like (own_known j j_own j_below j_known) k b k_below (sym (of_put_other k s xs free k_other) ∙ k_is)
+                  (sym stream ∙ sym (ap (λ s. s.place.stream) a_is)) (old_known k k_other k_below k_known) in
+                  (sym (ours.0 ∙ ap (λ s. s.front) a_is), λ pid h. sym (ours.1 pid h ∙ ap (λ s. has_pid s.pids pid) a_is))
+            ]
+        | inr j_other ↦
+            let a_old = sym (of_put_other j s xs free j_other) ∙ j_is in
+            let a_known = old_known j j_other j_below j_known in
+            elim (cases_eq s.place.slot k) [
+              | inl k_own ↦
+                  let b_is : s ≡ b = same_one s b (sym (of_put_same k s xs free k_own) ∙ k_is) in
+                  let ours = like (own_known k k_own k_below k_known) j a j_below a_old (stream ∙ sym (ap (λ s. s.place.stream) b_is)) a_known in
+                  (ours.0 ∙ ap (λ s. s.front) b_is, λ pid h. ours.1 pid h ∙ ap (λ s. has_pid s.pids pid) b_is)
+              | inr k_other ↦
+                  marked.alike j k a b j_below k_below a_old (sym (of_put_other k s xs free k_other) ∙ k_is) stream a_known
+                  (old_known k k_other k_below k_known)
+            ]
+      ];
 }
   where
-    old_known : (j : ℕ) → j < 64 → bit_at (with_slots own false known) j ≡ 1 → (s.place.slot ≢ j) × (bit_at known j ≡ 1)
-    old_known j below h =
-        elim (cases_eq s.place.slot j) [
-          | inl same ↦
-              let none = cleared own known j fits below (one_is own s.place.slot j one same) in
-              absurd (omega (arith, none, h))
-          | inr differs ↦ (differs, sym (with_kept own known j false fits below (none_is own s.place.slot j one differs)) ∙ h)
-        ]
+    old_known : (j : ℕ) → s.place.slot ≢ j → j < 64 → bit_at (with_slots own t known) j ≡ 1 → bit_at known j ≡ 1
+    old_known j differs below h = sym (with_kept own known j t fits below (none_is own s.place.slot j one differs)) ∙ h
+
+    own_known : (j : ℕ) → s.place.slot ≡ j → j < 64 → bit_at (with_slots own t known) j ≡ 1 → t ≡ true
+    own_known j same below h = bit_true t (sym (with_shown own known j t fits below (one_is own s.place.slot j one same)) ∙ h)
 
 -- one less
 still_there : (slot k : ℕ) (xs : List Subscription) (t : Subscription) → of_slot k (without slot xs) ≡ Some t → of_slot k xs ≡ Some t
@@ -385,3 +404,36 @@ any_of p slot (x ∷ xs) (below, apart, rest) = each (has_slot slot x) refl (any
 pub slots_all : (n slots stream : ℕ) (xs : List Subscription) → length xs ≤ n → SlotsApart xs → SlotsTo n slots stream xs → AreSlotsOf slots stream xs
 slots_all n slots stream xs all apart so_far = λ k below.
     so_far k ∙ ap (λ ys. bit (list_any (λ s. is_of stream s && has_slot k s) ys)) (take_all n xs all) ∙ ap bit (any_of (is_of stream) k xs apart)
+
+-- none of the first subscribers is of the stream and known to be alike
+abbrev pub NoneKnown : ℕ → ℕ → ℕ → List Subscription → Type 0
+NoneKnown n known stream xs = (i : ℕ) (d : Subscription) → i < n → i < length xs → (get_or xs i d).place.stream ≡ stream
+    → bit_at known (get_or xs i d).place.slot ≢ 1
+
+pub known_none : (n known stream : ℕ) (front : Option ℕ) (pids : Pids) (xs : List Subscription) → length xs ≤ n → NoneKnown n known stream xs
+    → IsLike known xs stream front pids
+known_none n known stream front pids xs all none = λ slot s below is same one.
+    let found = found_at slot xs s is in
+    let here = found.is s in
+    absurd (none found.at s (omega (arith, found.within, all)) found.within (ap (λ s. s.place.stream) here ∙ same)
+    (ap (λ s. bit_at known s.place.slot) here ∙ ap (λ n. bit_at known n) found.has ∙ one))
+
+pub known_more : (n known stream : ℕ) (xs : List Subscription) (e : Subscription)
+    → ((get_or xs n e).place.stream ≡ stream → bit_at known (get_or xs n e).place.slot ≢ 1) → NoneKnown n known stream xs
+    → NoneKnown (n + 1) known stream xs
+known_more n known stream xs e other so_far = λ i d lt within same.
+    elim (cases_eq i n) [
+      | inl here ↦
+          let one : get_or xs i d ≡ get_or xs n e = read_same xs i d e within ∙ ap (λ k. get_or xs k e) here in
+          subst (λ s. bit_at known s.place.slot ≢ 1) (sym one) (other (ap (λ s. s.place.stream) (sym one) ∙ same))
+      | inr differs ↦ so_far i d (omega (arith, lt, differs)) within same
+    ]
+
+-- one that is known stands for the others
+pub known_one : (n known stream : ℕ) (front : Option ℕ) (pids : Pids) (xs : List Subscription) (e : Subscription) → SlotsApart xs → n < length xs
+    → IsAlike known xs → (get_or xs n e).place.stream ≡ stream → bit_at known (get_or xs n e).place.slot ≡ 1 → (get_or xs n e).front ≡ front
+    → SamePids (get_or xs n e).pids pids → IsLike known xs stream front pids
+known_one n known stream front pids xs e apart within alike same one front_is pids_is = λ slot s below is stream_is bit_is.
+    let own = get_or xs n e in
+    let both = alike slot own.place.slot s own below (slot_below xs apart n e within) is (at_slot xs n e apart within) (stream_is ∙ sym same) bit_is one in
+    (both.0 ∙ front_is, λ pid h. both.1 pid h ∙ pids_is pid h)

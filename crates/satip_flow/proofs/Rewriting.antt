@@ -9,7 +9,7 @@ use Rattle.satip_flow.specs.Subscription.{is_at}
 use Rattle.satip_flow.specs.Subscriptions.{IsFrontOrNone}
 use Rattle.satip_flow.specs.Rows.{bit, marks, with_slots, rewritten, IsRewritten, Shows, KeepsSlots}
 
-with_shown : (slots word slot : ℕ) (is : Bool) → slots < 2 ^ 64 → slot < 64 → bit_at slots slot ≡ 1 → bit_at (with_slots slots is word) slot ≡ bit is
+pub with_shown : (slots word slot : ℕ) (is : Bool) → slots < 2 ^ 64 → slot < 64 → bit_at slots slot ≡ 1 → bit_at (with_slots slots is word) slot ≡ bit is
 with_shown slots word slot true fits below one = omega (arith, bit_at_or word slots slot, one, bit_at-lt word slot)
 with_shown slots word slot false fits below one =
     omega (arith, bit_at_and word (bit_not w64 slots) slot, bit_at_not w64 slots slot fits below, one)
@@ -19,9 +19,6 @@ pub with_kept : (slots word slot : ℕ) (is : Bool) → slots < 2 ^ 64 → slot 
 with_kept slots word slot true fits below none = omega (arith, bit_at_or word slots slot, none, bit_at-lt word slot)
 with_kept slots word slot false fits below none =
     omega (arith, bit_at_and word (bit_not w64 slots) slot, bit_at_not w64 slots slot fits below, none, bit_at-lt word slot)
-
-pub cleared : (slots word slot : ℕ) → slots < 2 ^ 64 → slot < 64 → bit_at slots slot ≡ 1 → bit_at (with_slots slots false word) slot ≡ 0
-cleared slots word slot fits below one = with_shown slots word slot false fits below one
 
 rewritten_shown : (slots word slot : ℕ) (was is : Bool) → slots < 2 ^ 64 → slot < 64 → bit_at slots slot ≡ 1 → bit_at word slot ≡ bit was
     → bit_at (rewritten slots (bit was) (bit is) word) slot ≡ bit is
@@ -158,3 +155,25 @@ front_written slots front start p q a b low is written = λ at pid h. each at pi
                   let past : front ≤ f = omega (arith, is, ge, h, low, differs) in
                   written.behind (8192 * f + pid) (omega (arith, is, past, low))
             ]
+
+-- sets with the same words select the same PIDs
+pub same_more : (n a b : ℕ) (p q : Pids) → ((i : ℕ) → i < 64 → bit_at a i ≡ bit (has_pid p (64 * n + i)))
+    → ((i : ℕ) → i < 64 → bit_at b i ≡ bit (has_pid q (64 * n + i))) → a ≡ b → ((pid : ℕ) → pid < 64 * n → has_pid p pid ≡ has_pid q pid)
+    → (pid : ℕ) → pid < 64 * (n + 1) → has_pid p pid ≡ has_pid q pid
+same_more n a b p q p_bits q_bits same so_far = λ pid h.
+    elim (cases_lt pid (64 * n)) [
+      | inl lt ↦ so_far pid lt
+      | inr ge ↦
+          let i : ℕ = pid - 64 * n in
+          let low : i < 64 = omega (arith, h, ge) in
+          let split : 64 * n + i ≡ pid = omega (arith, ge) in
+          let bits : bit (has_pid p (64 * n + i)) ≡ bit (has_pid q (64 * n + i)) =
+          sym (p_bits i low) ∙ ap (λ w. bit_at w i) same ∙ q_bits i low in
+          subst (λ k. has_pid p k ≡ has_pid q k) split (each (has_pid p (64 * n + i)) (has_pid q (64 * n + i)) bits)
+    ]
+  where
+    each : (t u : Bool) → bit t ≡ bit u → t ≡ u
+    each true true h = refl
+    each false false h = refl
+    each true false h = absurd (omega (arith, h))
+    each false true h = absurd (omega (arith, h))

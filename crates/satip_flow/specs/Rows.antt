@@ -39,6 +39,11 @@ abbrev pub IsAlike : ℕ → List Subscription → Type 0
 IsAlike alike xs = (j k : ℕ) (s t : Subscription) → j < 64 → k < 64 → of_slot j xs ≡ Some s → of_slot k xs ≡ Some t
     → s.place.stream ≡ t.place.stream → bit_at alike j ≡ 1 → bit_at alike k ≡ 1 → (s.front ≡ t.front) × SamePids s.pids t.pids
 
+-- those of a stream have this front end and these PIDs
+abbrev pub IsLike : ℕ → List Subscription → ℕ → Option ℕ → Pids → Type 0
+IsLike alike xs stream front pids = (slot : ℕ) (s : Subscription) → slot < 64 → of_slot slot xs ≡ Some s → s.place.stream ≡ stream
+    → bit_at alike slot ≡ 1 → (s.front ≡ front) × SamePids s.pids pids
+
 -- the words mark exactly what is selected
 pub record IsMarked (rows : List ℕ) (known : ℕ) (xs : List Subscription) : Type 0 where
   pub fronts : FrontsWithin xs

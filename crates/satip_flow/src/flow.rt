@@ -6,7 +6,7 @@ ghost use Rattle.circular_buffer.specs.Buffer.{buffer};
 ghost use Rattle.satip_rtp.specs.Sending.{SendsAll};
 ghost use Rattle.satip_rtp.specs.Packing.{packing};
 ghost use Rattle.satip_flow.specs.Subscription.{sender_state, pulled_bytes, WrotePulled, subscription, Subscription, ToAddress, ToQueue, has_slot, takes, given, given_datagrams, flushed, flush_datagrams, holds, readdressed, pulled, changed, meets_full, packing_of, queue_of, selects};
-ghost use Rattle.satip_flow.specs.Rows.{AreSlotsOf, IsMarked, IsPlaced, KeepsSlots, Shows, bit};
+ghost use Rattle.satip_flow.specs.Rows.{AreSlotsOf, IsAlike, IsLike, IsMarked, IsPlaced, KeepsSlots, Shows, bit};
 ghost use Rattle.satip_flow.specs.Standing.{IsNowhere, StandsAt, HoldsOfAt, ChangesAt};
 ghost use Rattle.satip_flow.specs.Queues.{has_queue};
 ghost use Rattle.satip_flow.specs.Subscriptions.{put, comes_before, change_slot, without, feed_of_slot, packing_of_slot, queue_of_slot, holds_any, flushed_datagrams, is_overrun, IsFrontOrNone, SlotsApart};
@@ -15,7 +15,9 @@ use crate::bits::next_bit;
 use crate::place::{Place, SenderState};
 use crate::places::{note_places, places_of};
 use crate::sink::Queue;
-use crate::slot_masks::{are_unmarked, group_of, make_rows, remark, slots_of, with_slots};
+use crate::slot_masks::{
+    are_unmarked, group_of, has_same, make_rows, remark, slots_of, with_slots,
+};
 use crate::subscriber::Subscriber;
 use satip_base::limits::{DATAGRAM, DATAGRAMS, PULLED_BYTES, QUEUED, SESSIONS};
 use satip_base::{Address, Out, Want};
@@ -88,11 +90,12 @@ impl Flow {
         ensures added { self.new
             ≡ put (subscription place front pids.now (ToAddress to (packing ssrc first))) self.old }
     {
+        let is_alike = is_like(&self.subscribers, self.alike, place.stream, front, pids);
         let subscriber = Subscriber::packed(place, front, pids, to, Packer::new(ssrc, first));
         insert_ordered(&mut self.subscribers, subscriber);
         let own = slot_bit(place.slot, true);
         remark(&mut self.rows, own, None, pids, front, pids);
-        self.alike = with_slots(self.alike, own, false);
+        self.alike = with_slots(self.alike, own, is_alike);
         note_places(&mut self.places, &self.subscribers);
     }
 
@@ -103,6 +106,7 @@ impl Flow {
         requires front { IsFrontOrNone front }
         ensures added { self.new ≡ put (subscription place front pids.now (ToQueue [])) self.old }
     {
+        let is_alike = is_like(&self.subscribers, self.alike, place.stream, front, pids);
         let queue = self.spare_queues.pop().unwrap();
         insert_ordered(
             &mut self.subscribers,
@@ -110,7 +114,7 @@ impl Flow {
         );
         let own = slot_bit(place.slot, true);
         remark(&mut self.rows, own, None, pids, front, pids);
-        self.alike = with_slots(self.alike, own, false);
+        self.alike = with_slots(self.alike, own, is_alike);
         note_places(&mut self.places, &self.subscribers);
     }
 
@@ -301,6 +305,28 @@ fn place_of(subscribers: &[Subscriber], places: &[u8], slot: u16) -> Option<usiz
         return None;
     }
     Some(at)
+}
+
+// Returns whether this front end and these PIDs are those of the stream's subscribers that are
+// known to be alike.
+fn is_like(
+    subscribers: &[Subscriber],
+    alike: u64,
+    stream: u16,
+    front: Option<u16>,
+    pids: &PidSet,
+) -> bool
+    requires apart { SlotsApart subscribers.now }
+    requires alike { IsAlike alike subscribers.now }
+    ensures like { result ≡ true → IsLike alike subscribers.now stream front pids.now }
+{
+    for subscriber in subscribers {
+        let place = subscriber.place();
+        if place.stream == stream && (alike >> place.slot) % 2 == 1 {
+            return subscriber.front() == front && has_same(subscriber.pids(), pids);
+        }
+    }
+    true
 }
 
 // Clears the marks of a subscriber's slot.

@@ -5,7 +5,7 @@ ghost use Rattle.std.specs.Int.{bit_at};
 ghost use Rattle.satip_pids.specs.Pids.{has_pid};
 ghost use Rattle.satip_flow.specs.Subscription.{is_at};
 ghost use Rattle.satip_flow.specs.Subscriptions.{IsFrontOrNone};
-ghost use Rattle.satip_flow.specs.Rows.{bit, marks, rewritten, with_slots, IsGroup, IsRewritten, KeepsSlots, NoneMarked, Shows};
+ghost use Rattle.satip_flow.specs.Rows.{bit, marks, rewritten, with_slots, IsGroup, IsRewritten, KeepsSlots, NoneMarked, SamePids, Shows};
 
 use crate::bits::BITS;
 use satip_base::Want;
@@ -146,6 +146,18 @@ fn remark_word(rows: &mut [u64], at: usize, slots: u64, was: u64, is: u64)
     if was != is {
         rows[at] = with_slots(rows[at], slots, is == 1);
     }
+}
+
+/// Returns whether two sets select the same PIDs.
+pub(crate) fn has_same(a: &PidSet, b: &PidSet) -> bool
+    ensures same { result ≡ true → SamePids a.now b.now }
+{
+    for at in 0..WORDS {
+        if a.word(at) != b.word(at) {
+            return false;
+        }
+    }
+    true
 }
 
 /// Returns the word with the bits of these slots set or cleared.

@@ -1,8 +1,8 @@
-//! Reads the session clock and random bytes, counts what arrives from clients, and writes lines for
-//! people to standard error.
+//! Reads the session clock and random bytes, counts what arrives from clients, looks for the file
+//! that asks a server to end, and writes lines for people to standard error.
 //! Contract: none on what is read or written.
-//! Only tested: that no step of the wall clock moves the session clock, that keys differ, and that
-//! an arrival ends a wait for it.
+//! Only tested: that no step of the wall clock moves the session clock, that keys differ, that an
+//! arrival ends a wait for it, and when a server was asked to end.
 #![tactic(auto)]
 
 mod arrivals;
@@ -11,6 +11,7 @@ mod key;
 mod report;
 mod shown;
 mod starts;
+mod stop;
 mod stopwatch;
 #[cfg(test)]
 mod tests;
@@ -18,7 +19,8 @@ mod tests;
 pub use arrivals::Arrivals;
 pub use clock::{ClockStart, RealClock, SteadyTime};
 pub use key::read_key;
-pub use report::{Throttle, report_line};
+pub use report::{Throttle, report_line, report_notice, report_warning};
 pub use shown::Shown;
 pub use starts::{Start, Starts};
+pub use stop::Stop;
 pub use stopwatch::Stopwatch;

@@ -1,31 +1,88 @@
 //! Lines on standard error.
 
-use httpdate::HttpDate;
+use jiff::Timestamp;
+use std::env::Env;
 use std::fmt::Display;
+use std::fs;
 use std::io::Write;
+use std::os::unix::fs::MetadataExt;
 use std::sync::atomic::{AtomicU64, Ordering};
 use std::time::{Clock, SystemTime, UNIX_EPOCH};
 
 // The least time between two lines of one kind, in seconds.
 const APART_S: u64 = 60;
 
-// Returns the date in UTC; `None` if the clock can't be read.
-fn date(rt: &HostRuntime) -> Option<HttpDate> {
-    let since = SystemTime::now(rt).ok()?.duration_since(UNIX_EPOCH).ok()?;
-    HttpDate::from_unix_secs(since.as_secs()).ok()
+// The variable that names the journal's stream, and the file of standard error.
+const JOURNAL_STREAM: &str = "JOURNAL_STREAM";
+
+const STANDARD_ERROR: &str = "/proc/self/fd/2";
+
+// The room for that variable's value: two numbers and a colon.
+const ROOM: usize = 64;
+
+// The priority of a line (syslog(3)).
+#[derive(Clone, Copy)]
+enum Priority {
+    Error = 3,
+    Warning = 4,
+    Info = 6,
 }
 
-/// Writes one line to standard error, by one call: the date in UTC in the form of RFC 9110, 5.6.7,
-/// and a text. Leaves the date out if the clock can't be read. Ignores a fault of standard error.
-/// Writes nothing if out of memory.
-pub fn report_line<D: Display + Drop>(rt: &HostRuntime, text: D) {
-    let line = match date(rt) {
-        Some(date) => format!(in rt.alloc(); "{date}: {text}\n"),
-        None => format!(in rt.alloc(); "{text}\n"),
+// Returns the time in UTC; `None` if the clock can't be read.
+fn time(rt: &HostRuntime) -> Option<Timestamp> {
+    let since = SystemTime::now(rt).ok()?.duration_since(UNIX_EPOCH).ok()?;
+    Timestamp::from_second(i64::try_from(since.as_secs()).ok()?).ok()
+}
+
+// Returns whether standard error is the stream of the journal that `JOURNAL_STREAM` names by device
+// and inode (systemd.exec(5)).
+fn is_journal(rt: &HostRuntime) -> bool {
+    let mut buf = [0; ROOM];
+    let Ok(count) = rt.var(JOURNAL_STREAM, &mut buf) else {
+        return false;
+    };
+    let Ok(file) = fs::metadata(rt, STANDARD_ERROR) else {
+        return false;
+    };
+    let (device, inode) = (file.dev(), file.ino());
+    match format!(in rt.alloc(); "{device}:{inode}") {
+        Ok(name) => name.as_bytes() == &buf[..count],
+        Err(_) => false,
+    }
+}
+
+// Writes one line to standard error, by one call. To the journal, it is the priority and the text;
+// else the time in UTC in the form of RFC 3339, if the clock can be read, and the text. Ignores a
+// fault of standard error. Writes nothing if out of memory.
+fn write_line<D: Display + Drop>(rt: &HostRuntime, priority: Priority, text: D) {
+    let alloc = rt.alloc();
+    let line = if is_journal(rt) {
+        let level = priority as u8;
+        format!(in alloc; "<{level}>{text}\n")
+    } else {
+        match time(rt) {
+            Some(time) => format!(in alloc; "{time}: {text}\n"),
+            None => format!(in alloc; "{text}\n"),
+        }
     };
     if let Ok(line) = line {
         let _ = rt.stderr().write_all(line.as_bytes());
     }
+}
+
+/// Logs what the operator has to mend.
+pub fn report_line<D: Display + Drop>(rt: &HostRuntime, text: D) {
+    write_line(rt, Priority::Error, text);
+}
+
+/// Logs what a client or the network did.
+pub fn report_warning<D: Display + Drop>(rt: &HostRuntime, text: D) {
+    write_line(rt, Priority::Warning, text);
+}
+
+/// Logs what the server does.
+pub fn report_notice<D: Display + Drop>(rt: &HostRuntime, text: D) {
+    write_line(rt, Priority::Info, text);
 }
 
 /// Limits lines of one kind to one a minute. Several threads may share it.

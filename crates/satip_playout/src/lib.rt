@@ -15,7 +15,7 @@ mod store;
 
 pub use pacer::{RealPacer, pause_until};
 pub use progress::Progress;
-pub use recording::{Playing, RealRecording, RecordingFault};
+pub use recording::{Named, Playing, RealRecording, RecordingFault};
 pub use recording_clock::RecordingClock;
 pub use references::{breaks, reference_of, ticks_between};
 pub use store::RealStore;

@@ -6,22 +6,23 @@ use std::sync::{Arc, Wait};
 use std::thread;
 use std::time::Duration;
 
-// The count of short pauses after an arrival. A request is answered within them, and a pump that
-// has to play for it sees that with its next question.
+// The count of short pauses after an end of doors. If the server stops after it, it does so within
+// them.
 const SHORT: u32 = 10;
 
 // The longest pause, in microseconds.
 const LONGEST: u64 = 1_000_000;
 
-/// Pauses of 20 ms after an arrival, and else until the next one, for up to a second.
+/// Pauses until the next arrival, for up to a second. The events of a piece of input are made before
+/// it counts, so one question after it is enough. After an end of doors ten pauses last 20 ms.
 #[derive(Drop)]
 pub(crate) struct Lull<R: Wait + Drop> {
     rt: R,
     arrivals: Arc<Arrivals>,
     // The pump's place at the arrivals.
     place: usize,
-    // The count of arrivals at the last pause, and that of short pauses that are left.
-    seen: u64,
+    // The count of ends of doors at the last pause, and that of short pauses that are left.
+    ends: u64,
     short: u32,
 }
 
@@ -32,16 +33,16 @@ impl<R: Wait + Drop> Lull<R> {
             rt,
             arrivals,
             place,
-            seen: 0,
+            ends: 0,
             short: 0,
         }
     }
 
     /// Pauses.
     pub(crate) fn pause(&mut self, host: &HostRuntime) {
-        let count = self.arrivals.count();
-        if count != self.seen {
-            self.seen = count;
+        let ends = self.arrivals.ends();
+        if ends != self.ends {
+            self.ends = ends;
             self.short = SHORT;
         }
         if self.short == 0 {

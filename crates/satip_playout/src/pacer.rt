@@ -154,8 +154,8 @@ enum Pauses<R: Wait + Drop> {
 /// - the clocks are more than a second apart.
 ///
 /// If a pump has read nothing since its last pause, the pause is a lull, and the clocks are set
-/// again. A lull lasts until something arrives from a client, for up to a second. After an arrival
-/// ten lulls last 20 ms, until the request is answered.
+/// again. A lull lasts until something arrives from a client, for up to a second. After an end of
+/// doors ten lulls last 20 ms, since the server may stop.
 ///
 /// A ticker's pauses end 20 ms apart, however long a tick takes.
 ///

@@ -8,8 +8,9 @@ use crate::pieces::{PACKETS, Piece};
 use crate::progress::Progress;
 use crate::recording_clock::RecordingClock;
 use satip_base::{ReadSource, Source, Taken, Text};
-use satip_host::{Shown, report_line};
+use satip_host::{Shown, Throttle, report_line};
 use satip_ts::{Cutter, Packet};
+use std::alloc::{AllocError, Global};
 use std::fs::File;
 use std::io::{BufReader, ErrorKind, Read, Seek, SeekFrom};
 use std::marker::Model;
@@ -144,7 +145,7 @@ impl Playing {
 #[derive(Drop)]
 struct PacketReader {
     rt: HostRuntime,
-    name: Text,
+    named: Named,
     file: BufReader<File>,
     cutter: Cutter,
     piece: Piece,
@@ -152,27 +153,30 @@ struct PacketReader {
     playing: Playing,
     // Whether a packet was read since the file's start.
     any: bool,
+    // The error that ended the reading of a piece that had packets.
+    fault: Option<io::Error>,
 }
 
 impl PacketReader {
     // Opens the file of this name.
     fn open(
         rt: &HostRuntime,
-        name: &Text,
+        named: &Named,
         playing: &Playing,
     ) -> Result<PacketReader, RecordingFault> {
-        let file = BufReader::with_capacity(rt.alloc(), AHEAD, open_regular(rt, name)?)?;
+        let file = BufReader::with_capacity(rt.alloc(), AHEAD, open_regular(rt, &named.name)?)?;
         let playing = playing.of_recording()?;
         playing.tell_break();
         Ok(PacketReader {
             rt: *rt,
-            name: copy(rt, name)?,
+            named: named.copy(rt)?,
             file,
             cutter: Cutter::new(),
             piece: Piece::new(),
             clock: RecordingClock::new(),
             playing,
             any: false,
+            fault: None,
         })
     }
 
@@ -182,10 +186,30 @@ impl PacketReader {
     {
         let count = self.file.get_mut().read(buf);
         if let Err(error) = &count {
-            report_fault(&self.rt, &self.name, error);
+            report_fault(&self.rt, &self.named, error);
         }
         self.playing.tell(None);
         count
+    }
+
+    // Reads the next piece. An error after packets is returned by the next call. Reports an error
+    // that is returned.
+    fn next_piece(&mut self) -> io::Result<()> {
+        let ended = match self.fault.take() {
+            Some(error) => Err(error),
+            None => self.fill(),
+        };
+        match ended {
+            Err(error) if self.piece.is_empty() => {
+                report_fault(&self.rt, &self.named, &error);
+                Err(error)
+            }
+            Err(error) => {
+                self.fault = Some(error);
+                Ok(())
+            }
+            Ok(()) => Ok(()),
+        }
     }
 
     // Cuts as many packets as fit and are left, and reports the clock's place after them.
@@ -259,21 +283,16 @@ impl Read for PacketReader {
             return self.read_bytes(buf);
         }
         if self.piece.is_empty() {
-            let filled = self.fill();
-            if self.piece.is_empty() {
-                if let Err(error) = filled {
-                    report_fault(&self.rt, &self.name, &error);
-                    return Err(error);
-                }
-            }
+            self.next_piece()?;
         }
         Ok(self.piece.give(buf))
     }
 }
 
 // Reports that a recording ended early.
-fn report_fault(rt: &HostRuntime, name: &Text, error: &io::Error) {
-    if error.kind() != ErrorKind::Interrupted {
+fn report_fault(rt: &HostRuntime, named: &Named, error: &io::Error) {
+    if error.kind() != ErrorKind::Interrupted && named.lines.is_due(rt) {
+        let name = &named.name;
         report_line(rt, ReadFault { name, error });
     }
 }
@@ -295,12 +314,30 @@ impl fmt::Display for ReadFault<'_> {
     }
 }
 
-// Returns a copy of a name.
-fn copy(rt: &HostRuntime, name: &Text) -> io::Result<Text> {
-    let text = str::from_utf8(name.bytes()).unwrap_or("");
-    match Text::of(rt.alloc(), text) {
-        Ok(text) => Ok(text),
-        Err(_) => Err(io::Error::from(ErrorKind::OutOfMemory)),
+/// The name of a recording's file. Lines on it are at least a minute apart.
+#[derive(Drop)]
+pub struct Named {
+    pub(crate) name: Text,
+    pub(crate) lines: Arc<Throttle>,
+}
+
+impl Named {
+    /// Creates the name of a recording on which nothing was reported yet.
+    pub fn new(alloc: Global, name: Text) -> Result<Named, AllocError> {
+        let lines = Arc::new(alloc, Throttle::new())?;
+        Ok(Named { name, lines })
+    }
+
+    // Returns the same name, whose lines are limited with those of this one.
+    fn copy(&self, rt: &HostRuntime) -> io::Result<Named> {
+        let text = str::from_utf8(self.name.bytes()).unwrap_or("");
+        match Text::of(rt.alloc(), text) {
+            Ok(name) => Ok(Named {
+                name,
+                lines: Arc::try_clone(&self.lines)?,
+            }),
+            Err(_) => Err(io::Error::from(ErrorKind::OutOfMemory)),
+        }
     }
 }
 
@@ -331,12 +368,12 @@ impl RealRecording {
     /// Opens the recording in the regular file of this name.
     pub(crate) fn open(
         rt: &HostRuntime,
-        name: &Text,
+        named: &Named,
         playing: &Playing,
     ) -> Result<RealRecording, RecordingFault>
         ensures fresh { IfOk result (λ recording. recording ≡ fresh_feed []) }
     {
-        let reader = PacketReader::open(rt, name, playing)?;
+        let reader = PacketReader::open(rt, named, playing)?;
         Ok(RealRecording {
             source: ReadSource::new(reader),
             faults: 0,

@@ -4,7 +4,7 @@ ghost use Rattle.std.specs.Prelude.{◌≡◌, [], IfOk};
 ghost use Rattle.satip_base.specs.Streams.{fresh_feed};
 ghost use Rattle.satip_playout.specs.StoreCounts.{fresh_counts};
 
-use crate::recording::{Playing, RealRecording, RecordingFault, file_length};
+use crate::recording::{Named, Playing, RealRecording, RecordingFault, file_length};
 use satip_base::{Failed, Text};
 use satip_host::{Shown, report_line};
 use satip_world::MuxStore;
@@ -24,7 +24,7 @@ const SHORTAGE_MS: u64 = 50;
 #[derive(Drop)]
 pub struct RealStore {
     rt: HostRuntime,
-    files: Arc<Vec<Text>>,
+    files: Arc<Vec<Named>>,
     playing: Playing,
     faults: u64,
     lent: u64,
@@ -41,7 +41,7 @@ impl Model for RealStore {
 
 impl RealStore {
     /// Creates a store whose multiplex `n` has the name at place `n - 1`.
-    pub fn new(rt: HostRuntime, files: Arc<Vec<Text>>, playing: Playing) -> RealStore
+    pub fn new(rt: HostRuntime, files: Arc<Vec<Named>>, playing: Playing) -> RealStore
         ensures fresh { result ≡ fresh_counts }
     {
         RealStore {
@@ -71,56 +71,57 @@ impl RealStore {
     /// Returns the length of the file of a multiplex in bytes, or why it can't be played.
     pub fn length(&self, mux: u16) -> Result<u64, RecordingFault> {
         match name_of(&self.files, mux) {
-            Some(name) => file_length(&self.rt, name),
+            Some(named) => file_length(&self.rt, &named.name),
             None => Err(RecordingFault::Unnamed),
         }
     }
 }
 
 // Returns the name of the file of a multiplex.
-fn name_of(files: &[Text], mux: u16) -> Option<&Text> {
+fn name_of(files: &[Named], mux: u16) -> Option<&Named> {
     files.get((mux as usize).checked_sub(1)?)
 }
 
 // Opens a recording. During a shortage, tries again for two seconds.
-fn open(rt: &HostRuntime, name: &Text, playing: &Playing) -> Result<RealRecording, RecordingFault>
+fn open(rt: &HostRuntime, named: &Named, playing: &Playing) -> Result<RealRecording, RecordingFault>
     ensures fresh { IfOk result (λ recording. recording ≡ fresh_feed []) }
 {
     for _ in 0..SHORTAGE_WAITS {
-        match RealRecording::open(rt, name, playing) {
+        match RealRecording::open(rt, named, playing) {
             Err(fault) if fault.is_shortage() => {
                 thread::sleep(rt, Duration::from_millis(SHORTAGE_MS));
             }
             opened => return opened,
         }
     }
-    RealRecording::open(rt, name, playing)
+    RealRecording::open(rt, named, playing)
 }
 
-// Opens the recording of a multiplex. Reports a fault on standard error.
+// Opens the recording of a multiplex. Reports a fault on standard error, at most once a minute.
 fn begin(
     rt: &HostRuntime,
-    files: &[Text],
+    files: &[Named],
     playing: &Playing,
     mux: u16,
 ) -> Result<RealRecording, RecordingFault>
     ensures fresh { IfOk result (λ recording. recording ≡ fresh_feed []) }
 {
-    let Some(name) = name_of(files, mux) else {
+    let Some(named) = name_of(files, mux) else {
         return Err(RecordingFault::Unnamed);
     };
-    match open(rt, name, playing) {
+    match open(rt, named, playing) {
         Ok(recording) => Ok(recording),
         Err(fault) => {
-            report_line(
-                rt,
-                StartFault {
-                    name,
-                    fault: &fault,
-                },
-            );
+            report_start(rt, named, &fault);
             Err(fault)
         }
+    }
+}
+
+fn report_start(rt: &HostRuntime, named: &Named, fault: &RecordingFault) {
+    if named.lines.is_due(rt) {
+        let name = &named.name;
+        report_line(rt, StartFault { name, fault });
     }
 }
 

@@ -1,5 +1,5 @@
 -- The pauses of jobs, entry by entry.
-use Rattle.std.proofs.Common.{◌≡◌, ℕ, ◌+◌, Bool, true, List, [], ◌∷◌, ◌++◌, length, length-append, Some, Result, Ok, Err, refl, sym, ap, ◌∙◌, subst, append-nil, append_assoc, arith}
+use Rattle.std.proofs.Common.{◌≡◌, ℕ, suc, ◌+◌, ◌≤◌, Bool, true, List, [], ◌∷◌, ◌++◌, length, length-append, Some, Result, Ok, Err, refl, sym, ap, ◌∙◌, subst, append-nil, append_assoc, arith}
 use Rattle.satip_base.specs.Output.{Output}
 use Rattle.satip_base.specs.declared.entry.Taken.{Taken}
 use Rattle.satip_base.specs.History.{entry, entries}
@@ -15,15 +15,15 @@ use Rattle.satip_plain.specs.Pumping.{work_told}
 use Rattle.satip_plain.specs.declared.fault.ServiceFault.{ServiceFault}
 use Rattle.satip_plain.specs.Known.{Known}
 use Rattle.satip_world.specs.Counts.{Rises}
+use Rattle.satip_world.specs.Pausing.{RisesBy}
 use Rattle.satip_world.specs.Outboxes.{Outbox}
 use Rattle.satip_pump.specs.declared.ends.JobEnd.{JobEnd}
 use Rattle.satip_pump.specs.declared.ends.JobEnd.TheVariants.{Stopped, Spent, Want}
 use Rattle.satip_pump.specs.Buffers.{Buffered}
 use Rattle.satip_pump.specs.Loads.{is_of, Gives}
-use Rattle.satip_pump.specs.PumpRuns.{RoseBy}
 use Rattle.satip_pump.specs.Works.{Works, Gave}
 use Rattle.satip_pump.specs.TickRuns.{Ticked}
-use Rattle.satip_pump.proofs.ReadingLemmas.{rose_none, rose_one, rose_same}
+use Rattle.satip_world.proofs.PausingLemmas.{rises_none, rises_once, rises_same}
 use Rattle.satip_pump.specs.Pauses.{Paced, TickPauses, idle_in, one_if_nothing, one_if_packet, owed_by, packets_in}
 
 packets-append : (es fs : List Item) → packets_in (es ++ fs) ≡ packets_in es + packets_in fs
@@ -47,7 +47,7 @@ paced_none own p = record {
   idles = 0;
   packets = refl;
   idle = refl;
-  rose = rose_none p;
+  rose = rises_none p;
 }
 
 -- some entries more
@@ -68,8 +68,8 @@ paced_then own own' own'' es p q since n owed paced made packets idle =
     }
 
 -- a pause after 64 packets
-pub paced_full : (own own' : List Item) (p q r since owed : ℕ) → since ≡ 64 → Paced own own' p q since owed → Rises q r → Paced own own' p r 0 owed
-paced_full own own' p q r since owed is paced once =
+pub paced_full : (own own' : List Item) (p q r since owed : ℕ) → since ≡ 64 → Paced own own' p q since owed → Rises q r → r ≤ suc q → Paced own own' p r 0 owed
+paced_full own own' p q r since owed is paced rises once =
     let packets = paced.packets in
     record {
       entries = paced.entries;
@@ -78,13 +78,13 @@ paced_full own own' p q r since owed is paced once =
       idles = paced.idles;
       packets = omega (arith, packets, is);
       idle = paced.idle;
-      rose = rose_same (paced.full + paced.idles + 1) (paced.full + 1 + paced.idles) p r (omega arith)
-          (rose_one (paced.full + paced.idles) p q r paced.rose once);
+      rose = rises_same (paced.full + paced.idles + 1) (paced.full + 1 + paced.idles) p r (omega arith)
+          (rises_once (paced.full + paced.idles) p q r paced.rose rises once);
     }
 
 -- the pause that was owed
-pub paced_idle : (own own' : List Item) (p q r since : ℕ) → Paced own own' p q since 1 → Rises q r → Paced own own' p r since 0
-paced_idle own own' p q r since paced once =
+pub paced_idle : (own own' : List Item) (p q r since : ℕ) → Paced own own' p q since 1 → Rises q r → r ≤ suc q → Paced own own' p r since 0
+paced_idle own own' p q r since paced rises once =
     let idle = paced.idle in
     record {
       entries = paced.entries;
@@ -93,8 +93,8 @@ paced_idle own own' p q r since paced once =
       idles = paced.idles + 1;
       packets = paced.packets;
       idle = omega (arith, idle);
-      rose = rose_same (paced.full + paced.idles + 1) (paced.full + (paced.idles + 1)) p r (omega arith)
-          (rose_one (paced.full + paced.idles) p q r paced.rose once);
+      rose = rises_same (paced.full + paced.idles + 1) (paced.full + (paced.idles + 1)) p r (omega arith)
+          (rises_once (paced.full + paced.idles) p q r paced.rose rises once);
     }
 
 -- an answer that there is nothing to do owes a pause
@@ -169,39 +169,39 @@ works_pace may_want k l tells o n event (Err fault) own p now since none is pace
 pub record TicksPaced (own own' : List Item) (before now : ℕ) : Type 0 where
   pub entries : List Item
   pub made : own' ≡ own ++ entries
-  pub pauses : RoseBy (length entries) before now
+  pub pauses : RisesBy (length entries) before now
 
 pub ticks_paced_none : (own : List Item) (p : ℕ) → TicksPaced own own p p
-ticks_paced_none own p = record { entries = []; made = sym (append-nil own); pauses = rose_none p }
+ticks_paced_none own p = record { entries = []; made = sym (append-nil own); pauses = rises_none p }
 
-pub ticks_paced_more : (own own' own'' : List Item) (e : Item) (p q r : ℕ) → TicksPaced own own' p q → Rises q r → own'' ≡ own' ++ e ∷ []
+pub ticks_paced_more : (own own' own'' : List Item) (e : Item) (p q r : ℕ) → TicksPaced own own' p q → Rises q r → r ≤ suc q → own'' ≡ own' ++ e ∷ []
     → TicksPaced own own'' p r
-ticks_paced_more own own' own'' e p q r paced once made = record {
+ticks_paced_more own own' own'' e p q r paced rises once made = record {
   entries = paced.entries ++ e ∷ [];
   made = made ∙ ap (λ (h : List Item). h ++ e ∷ []) paced.made ∙ append_assoc own paced.entries (e ∷ []);
-  pauses = rose_same (length paced.entries + 1) (length (paced.entries ++ e ∷ [])) p r (omega (arith, length-append paced.entries (e ∷ [])))
-      (rose_one (length paced.entries) p q r paced.pauses once);
+  pauses = rises_same (length paced.entries + 1) (length (paced.entries ++ e ∷ [])) p r (omega (arith, length-append paced.entries (e ∷ [])))
+      (rises_once (length paced.entries) p q r paced.pauses rises once);
 }
 
 -- the last tick
 pub ticks_pause : (may_want : Bool) (end : JobEnd) (own : List Item) (l m : Known) (tells : Type 0) (n o : Outbox) (now p q r : ℕ)
-    → TicksPaced own l.own p q → Rises q r
+    → TicksPaced own l.own p q → Rises q r → r ≤ suc q
     → Ticked may_want l m tells n o now (Some end) → TickPauses own m.own p r end
-ticks_pause may_want Stopped own l m tells n o now p q r paced once made =
+ticks_pause may_want Stopped own l m tells n o now p q r paced rises once made =
     let e : Item = entry made.caller (Tick now) (Beat BeatStopping) made.out in
-    let all = ticks_paced_more own l.own m.own e p q r paced once made.adds.own in
+    let all = ticks_paced_more own l.own m.own e p q r paced rises once made.adds.own in
     record {
       entries = all.entries;
       made = all.made;
-      pauses = rose_same (length all.entries) (length all.entries + 0) p r (omega arith) all.pauses;
+      pauses = rises_same (length all.entries) (length all.entries + 0) p r (omega arith) all.pauses;
     }
-ticks_pause may_want Spent own l m tells n o now p q r paced once none = record {
+ticks_pause may_want Spent own l m tells n o now p q r paced rises once none = record {
   entries = paced.entries;
   made = none.unmade.adds.own ∙ paced.made;
-  pauses = rose_one (length paced.entries) p q r paced.pauses once;
+  pauses = rises_once (length paced.entries) p q r paced.pauses rises once;
 }
-ticks_pause may_want Want own l m tells n o now p q r paced once none = record {
+ticks_pause may_want Want own l m tells n o now p q r paced rises once none = record {
   entries = paced.entries;
   made = none.unmade.adds.own ∙ paced.made;
-  pauses = rose_one (length paced.entries) p q r paced.pauses once;
+  pauses = rises_once (length paced.entries) p q r paced.pauses rises once;
 }

@@ -4,77 +4,42 @@ ghost use Rattle.std.specs.Prelude.{◌≡◌, false, IfOk};
 ghost use Rattle.std.specs.Io.{ReadsAtMost};
 
 use crate::dialing::connect;
-use crate::errors::is_passing;
 use crate::options::prepare;
-use crate::readiness::has_input;
-use crate::sending::send_all;
+use crate::sending::{advance, send_all};
 use crate::silence::Silence;
+use crate::socket::Socket;
 use mio::net::TcpStream;
 use satip_base::{Address, Put};
+use satip_datagrams::is_passing;
 use satip_host::Stopwatch;
 use satip_world::{Conn, ConnEnd, Received};
 use std::io;
-use std::io::{ErrorKind, Read};
+use std::io::ErrorKind;
 use std::marker::Model;
-use std::net::Shutdown;
 
 // The length of one wait for a dialed server, in milliseconds.
-const SERVER_WAIT_MS: i32 = 1;
-
-// The time for which a closing connection waits for the client's end, in milliseconds.
-const LAST_WAIT_MS: u64 = 500;
-
-// The most pieces of input that a closing connection drops.
-const LAST_READS: u32 = 65536;
-
-// A non-blocking stream.
-#[derive(Drop)]
-struct Socket {
-    stream: TcpStream,
-}
-
-impl Socket {
-    // Waits up to `wait_ms` milliseconds for input, and reads it.
-    fn read(&mut self, wait_ms: i32, buf: &mut [u8]) -> io::Result<usize>
-        ensures within { ReadsAtMost result buf.new }
-    {
-        if !has_input(&self.stream, wait_ms) {
-            return Err(io::Error::from(ErrorKind::WouldBlock));
-        }
-        self.stream.read(buf)
-    }
-
-    // Ends the output, and drops input until the other end ends its own, for up to 500 ms. A stream
-    // that is closed while the other end sends is reset, and the last bytes sent may be lost.
-    fn finish(&mut self, watch: &Stopwatch) {
-        if self.stream.shutdown(Shutdown::Write).is_err() {
-            return;
-        }
-        let mut dropped = [0u8; 4096];
-        for _ in 0..LAST_READS {
-            let left_ms = LAST_WAIT_MS.saturating_sub(watch.elapsed_ms());
-            if left_ms == 0 || !has_input(&self.stream, left_ms as i32) {
-                return;
-            }
-            match self.stream.read(&mut dropped) {
-                Ok(0) => return,
-                Ok(_) => (),
-                Err(error) if is_passing(&error) => (),
-                Err(_) => return,
-            }
-        }
-    }
-}
+const SERVER_WAIT_MS: u64 = 1;
 
 /// A TCP connection to a client, or to a server that was dialed.
 ///
-/// A receive from a client waits up to 50 ms for bytes, and is idle if none came. After 20 such
-/// waits in a row, between which nothing was sent, it waits up to a second, but for an HTTP client
-/// that was sent something. A byte ends each wait. A receive fails if the client is silent for too
-/// long:
-/// - longer than the doors' timeout, over RTSP, or over HTTP before anything was sent to it;
-/// - longer than 2 s, if the client has sent nothing yet and others wait at the doors. An HTTP
-/// client that was sent something is exempt.
+/// A receive from a client waits for bytes, and is idle if none came. It waits up to
+/// - 50 ms for an HTTP client that was sent something;
+/// - 35 ms for an RTSP client to whom frames may go; 10 ms after bytes were received, or more than
+///   131072 were sent, since the last receive; 50 ms after more than 8192 were;
+/// - a second for any other client.
+///
+/// A byte ends each wait. A client is silent while it sends nothing and nothing is sent to it. Over
+/// RTSP, and over HTTP before anything was sent to it, a receive fails
+/// - if the client is silent for longer than the doors' timeout;
+/// - if others wait at the doors, and the client has sent nothing for 2 s since it came;
+/// - if others wait at the doors, and nothing was sent to the client for 10 s after it sent bytes;
+///   for 2 s if it was never sent anything, one such client was given up, and others waited since.
+///
+/// A wait ends when one of these times does. What a client sent counts as an arrival at the next
+/// receive, when its connection is closed, and when a send has to wait.
+///
+/// If the server may be asked to end, a receive from a client waits up to 250 ms. Once it was asked
+/// to, and the time for its connections is over, each receive is the end.
 ///
 /// A receive from a server waits up to 1 ms for bytes, and no silence makes it fail.
 ///
@@ -110,11 +75,17 @@ impl Model for RealConn {
 impl RealConn {
     ghost use Rattle.satip_world.specs.Lines.{fresh_line};
 
-    /// Creates a connection over a stream that was just accepted.
-    pub(crate) fn open(stream: TcpStream, silence: Silence) -> RealConn
-        ensures fresh { result ≡ fresh_line }
+    /// Creates a connection over a stream that was just accepted. Fails if the system can't report
+    /// what happens to it.
+    pub(crate) fn open(
+        rt: &HostRuntime,
+        stream: TcpStream,
+        silence: Silence,
+    ) -> io::Result<RealConn>
+        ensures fresh { IfOk result (λ conn. conn ≡ fresh_line) }
     {
-        RealConn::over(stream, Some(silence))
+        let socket = Socket::open(rt, stream)?;
+        Ok(RealConn::over(socket, Some(silence)))
     }
 
     /// Connects to a server, which has up to 10 s to accept. Returns the error of a refusal or
@@ -122,16 +93,16 @@ impl RealConn {
     pub fn dial(rt: HostRuntime, to: Address) -> io::Result<RealConn>
         ensures fresh { IfOk result (λ conn. conn ≡ fresh_line) }
     {
-        let stream = connect(rt, to)?;
-        Ok(RealConn::over(stream, None))
+        let socket = connect(rt, to)?;
+        Ok(RealConn::over(socket, None))
     }
 
-    fn over(stream: TcpStream, silence: Option<Silence>) -> RealConn
+    fn over(socket: Socket, silence: Option<Silence>) -> RealConn
         ensures fresh { result ≡ fresh_line }
     {
-        prepare(&stream);
+        prepare(&socket.stream);
         RealConn {
-            socket: Socket { stream },
+            socket,
             silence,
             ended: false,
             idles: 0,
@@ -140,7 +111,8 @@ impl RealConn {
         }
     }
 
-    // Reads the next bytes. Returns `TimedOut` if the other end was silent for too long.
+    // Reads the next bytes; 0 if the server was asked to end and the connection has to. Returns
+    // `TimedOut` if the other end was silent for too long.
     fn hear(&mut self, buf: &mut [u8]) -> io::Result<usize>
         ensures within { ReadsAtMost result buf.new }
         ensures same { self.new ≡ self.old }
@@ -148,9 +120,16 @@ impl RealConn {
         let Some(silence) = &mut self.silence else {
             return self.socket.read(SERVER_WAIT_MS, buf);
         };
-        match self.socket.read(silence.wait_ms(), buf) {
+        let wait_ms = silence.next_wait_ms();
+        if silence.has_to_end() {
+            return Ok(0);
+        }
+        match self.socket.read(silence.cut_ms(wait_ms), buf) {
             Ok(count) => {
                 silence.hear();
+                if silence.is_over() {
+                    return Err(io::Error::from(ErrorKind::TimedOut));
+                }
                 Ok(count)
             }
             Err(error) if is_passing(&error) && silence.is_over() => {
@@ -160,10 +139,27 @@ impl RealConn {
         }
     }
 
+    // Sends all bytes.
+    fn put(&mut self, bytes: &[u8]) -> io::Result<()>
+        ensures same { self.new ≡ self.old }
+    {
+        let rest = advance(&mut self.socket, bytes)?;
+        if rest.is_empty() {
+            return Ok(());
+        }
+        if let Some(silence) = &self.silence {
+            silence.show_events();
+        }
+        send_all(&mut self.socket, rest)
+    }
+
     /// Closes the connection. After a service that ended as `Done`, the other end has up to 500 ms
     /// to take the last bytes and to end its own side.
     pub fn close(self, rt: HostRuntime, end: ConnEnd) {
         let mut conn = self;
+        if let Some(silence) = &mut conn.silence {
+            silence.end_piece();
+        }
         if end == ConnEnd::Done {
             conn.socket.finish(&Stopwatch::start(rt));
         }
@@ -198,9 +194,9 @@ impl Conn for RealConn {
 
     fn send(&mut self, bytes: &[u8]) -> Put {
         if let Some(silence) = &mut self.silence {
-            silence.answer();
+            silence.answer(bytes.len());
         }
-        if send_all(&mut self.socket.stream, bytes).is_ok() {
+        if self.put(bytes).is_ok() {
             return Put::Whole;
         }
         self.send_faults = self.send_faults.saturating_add(1);

@@ -2,11 +2,10 @@
 
 ghost use Rattle.std.specs.Prelude.{◌≤◌, IfSome};
 
-use crate::addresses::socket_addr;
-use crate::errors::is_passing;
-use crate::readiness::takes_output;
+use crate::socket::Socket;
 use mio::net::TcpStream;
 use satip_base::Address;
+use satip_datagrams::{is_passing, socket_addr};
 use satip_host::Stopwatch;
 use std::io::ErrorKind;
 use std::time::Duration;
@@ -49,13 +48,13 @@ fn begin(rt: HostRuntime, to: Address, watch: &Stopwatch) -> io::Result<TcpStrea
 
 // Waits until a stream is connected. The socket's pending error says how that ended, after the
 // stream takes output (connect(2), EINPROGRESS).
-fn settle(stream: &TcpStream, watch: &Stopwatch) -> io::Result<()> {
+fn settle(socket: &mut Socket, watch: &Stopwatch) -> io::Result<()> {
     for _ in 0..WAITS {
         let Some(wait_ms) = next_wait(watch) else {
             break;
         };
-        if takes_output(stream, wait_ms as i32) {
-            return match stream.take_error()? {
+        if socket.takes_output(wait_ms)? {
+            return match socket.stream.take_error()? {
                 Some(error) => Err(error),
                 None => Ok(()),
             };
@@ -65,9 +64,9 @@ fn settle(stream: &TcpStream, watch: &Stopwatch) -> io::Result<()> {
 }
 
 /// Returns a connection to a server, which has 10 s to accept it.
-pub(crate) fn connect(rt: HostRuntime, to: Address) -> io::Result<TcpStream> {
+pub(crate) fn connect(rt: HostRuntime, to: Address) -> io::Result<Socket> {
     let watch = Stopwatch::start(rt);
-    let stream = begin(rt, to, &watch)?;
-    settle(&stream, &watch)?;
-    Ok(stream)
+    let mut socket = Socket::open(&rt, begin(rt, to, &watch)?)?;
+    settle(&mut socket, &watch)?;
+    Ok(socket)
 }

@@ -21,17 +21,15 @@ const WAIT_MS: i32 = 5_000;
 // The time for which doors wait if a connection can't be accepted, in milliseconds.
 const SHORTAGE_MS: u64 = 50;
 
-// The most connections that one look drops because their clients have left.
-const LOOKS: u32 = 64;
-
 /// The doors of one worker. They wait up to 5 s for the next connection at the RTSP listener or
 /// at the HTTP listener, and are idle if none came. If the system has no room for one, they are
 /// idle after 50 ms. Only the faults of a listener itself count as theirs (EBADF, EINVAL and
 /// ENOTSOCK of accept(2)).
 ///
-/// A connection from which nothing can be read but its end is dropped. One that is handed back is
-/// closed. Each look is a step of the worker. The end and each fault count as an arrival, since the
+/// A connection that is handed back is closed. Each look is a step of the worker. The end and each fault count as an arrival, since the
 /// server may stop after them.
+///
+/// If the server may be asked to end, they wait up to 1 s, and end once it was asked to.
 #[derive(Drop)]
 pub struct RealDoors {
     rt: HostRuntime,
@@ -39,6 +37,8 @@ pub struct RealDoors {
     listeners: Arc<Listeners>,
     timeout_s: u32,
     limit: u32,
+    // Whether the server may be asked to end.
+    may_stop: bool,
     count: u64,
     ended: bool,
     idles: u64,
@@ -62,7 +62,9 @@ impl Model for RealDoors {
       returned = [];
     } };
 
-    ghost invariant = { λ d. d.ended ≡ true → (d.limit ≢ 0) × (d.limit ≤ d.count) };
+    // Doors of a server that nothing asks to end do so by their limit alone.
+    ghost invariant = { λ d. d.ended ≡ true → d.may_stop ≡ false
+        → (d.limit ≢ 0) × (d.limit ≤ d.count) };
 }
 
 impl RealDoors {
@@ -79,12 +81,14 @@ impl RealDoors {
     ) -> RealDoors
         ensures fresh { result ≡ fresh_hall limit false }
     {
+        let may_stop = listeners.may_stop();
         RealDoors {
             rt,
             start,
             listeners,
             timeout_s,
             limit,
+            may_stop,
             count: 0,
             ended: false,
             idles: 0,
@@ -101,49 +105,52 @@ struct Guest {
     conn: RealConn,
 }
 
-// Returns the next connection whose client is still there; `None` if none waits.
-fn next_visitor(listeners: &Listeners) -> io::Result<Option<Visitor>> {
-    let mut wait_ms = WAIT_MS;
-    for _ in 0..LOOKS {
-        match listeners.accept(wait_ms)? {
-            Some(visitor) if visitor.has_left() => wait_ms = 0,
-            found => return Ok(found),
-        }
-    }
-    Ok(None)
-}
-
-// Waits after a connection that can't be accepted: it is still there, so the next look would follow
-// at once. Reports a shortage of descriptors.
-fn rest(rt: &HostRuntime, listeners: &Listeners, error: &io::Error) {
-    if lacks_descriptors(error) && listeners.shortages.is_due(rt) {
+// Reports, at most once a minute, that connections can't be taken.
+fn report_shortage(rt: &HostRuntime, listeners: &Listeners, error: &io::Error) {
+    if listeners.shortages.is_due(rt) {
         report_line(
             rt,
             format_args!("connections can't be taken: {error} (for more descriptors: ulimit -n)"),
         );
     }
+}
+
+// Waits after a connection that can't be taken: it or others are still there, so the next look would
+// follow at once.
+fn rest(rt: &HostRuntime) {
     thread::sleep(rt, Duration::from_millis(SHORTAGE_MS));
 }
 
-// Returns the next connection; `None` if none waits, or if the system has no room for it.
+// Returns the next connection; `None` if none waits, or if the system has no room for it. One that
+// can't be watched is closed.
 fn welcome(rt: HostRuntime, listeners: &Arc<Listeners>, timeout_s: u32) -> io::Result<Option<Guest>>
     ensures fresh { IfOk result (λ came. IfSome came (λ guest. guest.conn ≡ fresh_line)) }
 {
-    let Visitor { kind, peer, stream } = match next_visitor(listeners) {
+    let Visitor { kind, peer, stream } = match listeners.accept(WAIT_MS) {
         Ok(Some(visitor)) => visitor,
         Ok(None) => return Ok(None),
+        Err(_) if listeners.is_stopped() => return Ok(None),
         Err(error) if ends_listening(&error) => return Err(error),
         Err(error) => {
-            rest(&rt, listeners, &error);
+            if lacks_descriptors(&error) {
+                report_shortage(&rt, listeners, &error);
+            }
+            rest(&rt);
             return Ok(None);
         }
     };
-    let Ok(listeners) = Arc::try_clone(listeners) else {
+    let Ok(shared) = Arc::try_clone(listeners) else {
         return Ok(None);
     };
-    let silence = Silence::begin(rt, kind, timeout_s, listeners);
-    let conn = RealConn::open(stream, silence);
-    Ok(Some(Guest { kind, peer, conn }))
+    let silence = Silence::begin(rt, kind, timeout_s, shared);
+    match RealConn::open(&rt, stream, silence) {
+        Ok(conn) => Ok(Some(Guest { kind, peer, conn })),
+        Err(error) => {
+            report_shortage(&rt, listeners, &error);
+            rest(&rt);
+            Ok(None)
+        }
+    }
 }
 
 impl Doors for RealDoors {
@@ -151,7 +158,8 @@ impl Doors for RealDoors {
 
     ghost hall = { λ d. d };
 
-    ghost by_limit = { Unit {0} };
+    // They end too if the server is asked to.
+    ghost by_limit = { ⊥ };
 
     fn next(&mut self) -> Door<RealConn> {
         self.start.step(&self.rt);
@@ -163,8 +171,14 @@ impl Doors for RealDoors {
             self.listeners.arrivals.add();
             return Door::End;
         }
+        if self.may_stop && self.listeners.is_stopped() {
+            self.ended = true;
+            self.listeners.arrivals.add();
+            return Door::End;
+        }
         match welcome(self.rt, &self.listeners, self.timeout_s) {
             Ok(Some(Guest { kind, peer, conn })) => {
+                self.listeners.enter();
                 self.count = self.count.saturating_add(1);
                 Door::Came { kind, peer, conn }
             }
@@ -191,5 +205,6 @@ impl Doors for RealDoors {
         // Gives the proof the invariant of the doors.
         let _ = &self.count;
         conn.close(self.rt, end);
+        self.listeners.leave();
     }
 }

@@ -1,72 +1,9 @@
-//! The errors of the system's calls, by what follows from them.
+//! The errors of accept(2), by what follows from them.
 
 use std::io;
 
-// Errors that the crate `libc` doesn't name (errno(3)).
+// An error that the crate `libc` doesn't name (errno(3)).
 const ENFILE: i32 = 23;
-
-const ENOBUFS: i32 = 105;
-
-const ENONET: i32 = 64;
-
-const EPROTO: i32 = 71;
-
-const EMSGSIZE: i32 = 90;
-
-const ENOPROTOOPT: i32 = 92;
-
-const EOPNOTSUPP: i32 = 95;
-
-const ENETDOWN: i32 = 100;
-
-const ENETUNREACH: i32 = 101;
-
-const EHOSTDOWN: i32 = 112;
-
-const EHOSTUNREACH: i32 = 113;
-
-/// Returns whether a call on a connection is to be made again later. It would have waited, a signal
-/// cut it short, or the system had no memory for it (recv(2), send(2)).
-pub(crate) fn is_passing(error: &io::Error) -> bool {
-    if error.kind() == io::ErrorKind::WouldBlock {
-        return true;
-    }
-    matches!(
-        error.raw_os_error(),
-        Some(libc::EAGAIN | libc::EINTR | libc::ENOMEM | ENOBUFS)
-    )
-}
-
-/// Returns whether a receive of a datagram is to be made again later. There was none, a signal cut
-/// it short, the system had no memory for it, or the network reported an error of a datagram sent
-/// before. See recv(2) and udp(7); the errors of the network are those of accept(2) and
-/// ECONNREFUSED.
-pub(crate) fn comes_later(error: &io::Error) -> bool {
-    is_passing(error) || is_of_the_network(error)
-}
-
-fn is_of_the_network(error: &io::Error) -> bool {
-    matches!(
-        error.raw_os_error(),
-        Some(
-            libc::ECONNREFUSED
-                | ENETDOWN
-                | ENETUNREACH
-                | EHOSTDOWN
-                | EHOSTUNREACH
-                | ENONET
-                | EPROTO
-                | EMSGSIZE
-                | ENOPROTOOPT
-                | EOPNOTSUPP
-        )
-    )
-}
-
-/// Returns whether a port can't be bound since it is in use or allowed to others only (bind(2)).
-pub(crate) fn is_taken(error: &io::Error) -> bool {
-    matches!(error.raw_os_error(), Some(libc::EADDRINUSE | libc::EACCES))
-}
 
 /// Returns whether an error of accept(2) is the listener's own, so that no later call gives a
 /// connection. All others are of one connection, or of a shortage that may pass.
@@ -80,12 +17,4 @@ pub(crate) fn ends_listening(error: &io::Error) -> bool {
 /// Returns whether the process or the system has no further descriptor.
 pub(crate) fn lacks_descriptors(error: &io::Error) -> bool {
     matches!(error.raw_os_error(), Some(libc::EMFILE | ENFILE))
-}
-
-/// Returns whether a send buffer or the system had no room for a datagram (send(2)).
-pub(crate) fn lacks_room(error: &io::Error) -> bool {
-    matches!(
-        error.raw_os_error(),
-        Some(libc::EAGAIN | libc::ENOMEM | ENOBUFS)
-    )
 }

@@ -1,17 +1,24 @@
 //! The two listeners of the server.
 
-use crate::addresses::{peer_of, socket_addr};
-use crate::errors::{ends_listening, is_passing};
+use crate::errors::ends_listening;
 use crate::readiness::have_input;
 use libc::net as c;
 use mio::net::{TcpListener, TcpStream};
 use satip_base::{Address, Peer};
-use satip_host::{Arrivals, Throttle};
+use satip_datagrams::{peer_of, socket_addr};
+use satip_host::{Arrivals, Stop, Throttle};
 use satip_world::DoorKind;
 use std::io;
 use std::net::Net;
 use std::os::fd::AsRawFd;
 use std::sync::Arc;
+use std::sync::atomic::{AtomicBool, Ordering};
+
+// The longest waits of a server that may be asked to end, in milliseconds: for a connection, and for
+// bytes of one.
+const LOOK_MS: i32 = 1000;
+
+const STOP_WAIT_MS: u64 = 250;
 
 /// The listeners for RTSP and for HTTP, which all doors of the server share.
 #[derive(Drop)]
@@ -20,6 +27,21 @@ pub struct Listeners {
     http: TcpListener,
     pub(crate) shortages: Throttle,
     pub(crate) arrivals: Arc<Arrivals>,
+    pub(crate) carried: Carried,
+    // Whether a client that ended no message was given up, and others waited since then.
+    crowded: AtomicBool,
+    // What asks the server to end, if there is something, and whether both are closed since.
+    stop: Option<Stop>,
+    closed: AtomicBool,
+}
+
+/// What goes to clients on RTSP connections.
+#[derive(Clone, Copy, PartialEq, Eq)]
+pub enum Carried {
+    /// Replies alone.
+    Replies,
+    /// Replies, and frames that wait in a lane.
+    Frames,
 }
 
 /// Why there are no listeners: an address that isn't the host's, or a port that is in use or
@@ -40,16 +62,6 @@ pub(crate) struct Visitor {
     pub(crate) stream: TcpStream,
 }
 
-impl Visitor {
-    /// Returns whether nothing can be read from it but its end or a fault.
-    pub(crate) fn has_left(&self) -> bool {
-        match self.stream.peek(&mut [0u8; 1]) {
-            Ok(count) => count == 0,
-            Err(error) => !is_passing(&error),
-        }
-    }
-}
-
 // Creates a listener at which about `backlog` connections wait to be accepted. At a full listener,
 // a client's connect doesn't end (listen(2)). If the system refuses that length, its default stays.
 fn listen(net: &impl Net, ip: u32, port: u16, backlog: u16) -> io::Result<TcpListener> {
@@ -61,7 +73,7 @@ fn listen(net: &impl Net, ip: u32, port: u16, backlog: u16) -> io::Result<TcpLis
 impl Listeners {
     /// Binds both listeners at an IPv4 address. Port 0 lets the system choose one. At each
     /// listener, about `backlog` connections wait that aren't accepted yet. What comes from clients
-    /// is counted in `arrivals`, and so is the end of doors.
+    /// is counted in `arrivals`, and so is the end of doors. `carried` goes to clients of RTSP.
     pub fn bind(
         net: &impl Net,
         ip: u32,
@@ -69,6 +81,7 @@ impl Listeners {
         http_port: u16,
         backlog: u16,
         arrivals: Arc<Arrivals>,
+        carried: Carried,
     ) -> Result<Listeners, BindFault> {
         let rtsp = match listen(net, ip, rtsp_port, backlog) {
             Ok(rtsp) => rtsp,
@@ -80,8 +93,71 @@ impl Listeners {
                 http,
                 shortages: Throttle::new(),
                 arrivals,
+                carried,
+                crowded: AtomicBool::new(false),
+                stop: None,
+                closed: AtomicBool::new(false),
             }),
             Err(error) => Err(BindFault::Http(error)),
+        }
+    }
+
+    /// Returns these listeners, of a server that is asked to end by `stop`.
+    pub fn ending_by(self, stop: Stop) -> Listeners {
+        Listeners {
+            stop: Some(stop),
+            ..self
+        }
+    }
+
+    /// Returns whether the server may be asked to end.
+    pub(crate) fn may_stop(&self) -> bool {
+        self.stop.is_some()
+    }
+
+    /// Returns whether the server was asked to end. Both listeners are closed then: what waits there
+    /// is reset, each wait for it ends, and another server can have the ports (shutdown(2)).
+    pub(crate) fn is_stopped(&self) -> bool {
+        let Some(stop) = &self.stop else {
+            return false;
+        };
+        if !stop.is_asked() {
+            return false;
+        }
+        if !self.closed.swap(true, Ordering::SeqCst) {
+            c::shutdown(self.rtsp.as_raw_fd(), c::SHUT_RDWR);
+            c::shutdown(self.http.as_raw_fd(), c::SHUT_RDWR);
+        }
+        true
+    }
+
+    /// Returns whether the connections of a server that was asked to end have to end now.
+    pub(crate) fn is_over(&self) -> bool {
+        match &self.stop {
+            Some(stop) => self.is_stopped() && stop.is_over(),
+            None => false,
+        }
+    }
+
+    /// Returns the wait for bytes of a connection, in milliseconds, that is to last this long.
+    pub(crate) fn wait_ms(&self, wait_ms: u64) -> u64 {
+        match self.stop {
+            Some(_) => wait_ms.min(STOP_WAIT_MS),
+            None => wait_ms,
+        }
+    }
+
+    /// Counts a connection that was accepted.
+    pub(crate) fn enter(&self) {
+        if let Some(stop) = &self.stop {
+            stop.enter();
+        }
+    }
+
+    /// Counts a connection that has ended.
+    pub(crate) fn leave(&self) {
+        if let Some(stop) = &self.stop {
+            stop.leave();
         }
     }
 
@@ -101,10 +177,27 @@ impl Listeners {
         rtsp || http
     }
 
+    /// Notes that a client that ended no message was given up, since others wait.
+    pub(crate) fn note_crowd(&self) {
+        self.crowded.store(true, Ordering::SeqCst);
+    }
+
+    /// Returns whether such a client was given up, and others waited since then.
+    pub(crate) fn is_crowded(&self) -> bool {
+        self.crowded.load(Ordering::SeqCst)
+    }
+
     /// Returns the next connection, one for RTSP first, after a wait of up to `wait_ms`
     /// milliseconds; `None` if none came.
     pub(crate) fn accept(&self, wait_ms: i32) -> io::Result<Option<Visitor>> {
+        let wait_ms = match self.stop {
+            Some(_) => wait_ms.min(LOOK_MS),
+            None => wait_ms,
+        };
         let (rtsp, http) = have_input(&self.rtsp, &self.http, wait_ms);
+        if !rtsp && !http {
+            self.crowded.store(false, Ordering::SeqCst);
+        }
         if rtsp {
             if let Some(visitor) = accept_at(&self.rtsp, DoorKind::Rtsp)? {
                 return Ok(Some(visitor));

@@ -2,7 +2,49 @@
 
 use libc::net as c;
 use libc::types::pollfd;
+use mio::event::Source;
+use mio::{Events, Interest, Poll, Token};
+use std::alloc::Global;
+use std::io;
 use std::os::fd::{AsRawFd, RawFd};
+use std::time::Duration;
+
+/// What is reported of one socket. An event is reported once (epoll(7), EPOLLET).
+#[derive(Drop)]
+pub(crate) struct Watch {
+    poll: Poll,
+    events: Events<Global>,
+}
+
+impl Watch {
+    /// Creates a watch of no socket yet.
+    pub(crate) fn open(rt: &HostRuntime) -> io::Result<Watch> {
+        let events = Events::with_capacity(rt.alloc(), 1)?;
+        Ok(Watch {
+            poll: Poll::new(rt)?,
+            events,
+        })
+    }
+
+    /// Lets input be reported of a socket.
+    pub(crate) fn add(&self, socket: &mut impl Source) -> io::Result<()> {
+        let registry = self.poll.registry();
+        registry.register(socket, Token(0), Interest::READABLE)
+    }
+
+    /// Lets one or the other be reported of a socket. What is there now is reported too.
+    pub(crate) fn change(&self, socket: &mut impl Source, to: Interest) -> io::Result<()> {
+        self.poll.registry().reregister(socket, Token(0), to)
+    }
+
+    /// Waits up to `wait_ms` milliseconds for a report; returns whether there was one. A signal ends
+    /// the wait without one.
+    pub(crate) fn wait(&mut self, wait_ms: u64) -> io::Result<bool> {
+        let longest = Duration::from_millis(wait_ms);
+        self.poll.poll(&mut self.events, Some(longest))?;
+        Ok(!self.events.is_empty())
+    }
+}
 
 fn asked(fd: RawFd, events: i16) -> pollfd {
     pollfd {
@@ -10,24 +52,6 @@ fn asked(fd: RawFd, events: i16) -> pollfd {
         events,
         revents: 0,
     }
-}
-
-/// Waits up to `wait_ms` milliseconds until a socket has input, its end or a fault; returns whether
-/// it has. A wait that a signal cut short returns false.
-pub(crate) fn has_input(socket: &impl AsRawFd, wait_ms: i32) -> bool {
-    c::poll(&mut [asked(socket.as_raw_fd(), c::POLLIN)], wait_ms) > 0
-}
-
-/// Waits up to `wait_ms` milliseconds until a socket takes output or has a fault; returns whether
-/// it does.
-pub(crate) fn takes_output(socket: &impl AsRawFd, wait_ms: i32) -> bool {
-    c::poll(&mut [asked(socket.as_raw_fd(), c::POLLOUT)], wait_ms) > 0
-}
-
-/// Waits up to `wait_ms` milliseconds until a socket takes output or has a fault; returns whether
-/// the wait was shorter. A wait that fails is shorter too.
-pub(crate) fn ends_early(socket: &impl AsRawFd, wait_ms: i32) -> bool {
-    c::poll(&mut [asked(socket.as_raw_fd(), c::POLLOUT)], wait_ms) != 0
 }
 
 /// Waits for `wait_ms` milliseconds, or until a signal cuts the wait short.

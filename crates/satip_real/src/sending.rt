@@ -2,17 +2,12 @@
 
 ghost use Rattle.std.specs.Prelude.{◌≡◌, ◌+◌, ◌<◌, ◌≤◌, min};
 
-use crate::errors::is_passing;
-use crate::readiness::{ends_early, pause};
-use mio::net::TcpStream;
+use satip_datagrams::is_passing;
 use std::io;
 use std::io::{ErrorKind, Write};
 
 // The most waits in a row in which the client took nothing.
 const IDLE_WAITS: u32 = 200;
-
-// The longest wait, in milliseconds.
-const WAIT_MS: i32 = 50;
 
 /// A non-blocking writer.
 pub trait Unhurried: Write {
@@ -23,18 +18,8 @@ pub trait Unhurried: Write {
     fn rest(&mut self);
 }
 
-impl Unhurried for TcpStream {
-    fn wait(&mut self) -> bool {
-        ends_early(self, WAIT_MS)
-    }
-
-    fn rest(&mut self) {
-        pause(WAIT_MS);
-    }
-}
-
-// Writes what the writer takes at once; returns the rest.
-fn advance<'b, W: Write>(writer: &mut W, bytes: &'b [u8]) -> io::Result<&'b [u8]> {
+/// Writes what the writer takes at once; returns the rest.
+pub(crate) fn advance<'b, W: Write>(writer: &mut W, bytes: &'b [u8]) -> io::Result<&'b [u8]> {
     match writer.write(bytes) {
         Ok(count) => Ok(bytes.split_at(count).1),
         Err(error) if is_passing(&error) => Ok(bytes),

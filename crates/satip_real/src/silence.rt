@@ -1,6 +1,8 @@
-//! When a client that sends nothing is given up, and how long it is waited for.
+//! When a client is given up, and how long it is waited for.
 
-use crate::listeners::Listeners;
+ghost use Rattle.std.specs.Prelude.{◌≡◌, ◌+◌, ◌-◌, ◌<◌, ◌≤◌, min};
+
+use crate::listeners::{Carried, Listeners};
 use satip_host::Stopwatch;
 use satip_world::DoorKind;
 use std::sync::Arc;
@@ -8,16 +10,28 @@ use std::sync::Arc;
 // How long a client that sent nothing yet is waited for while others wait, in milliseconds.
 const FIRST_BYTE_MS: u64 = 2000;
 
-// The length of one wait for a client that has sent and received nothing for a while, and the
-// length of one before. An HTTP client that was sent something always gets the second.
-const QUIET_WAIT_MS: i32 = 1000;
+// How long a client whose bytes have no answer is waited for while others wait, in milliseconds.
+const ANSWER_MS: u64 = 10_000;
 
-const BUSY_WAIT_MS: i32 = 50;
+// The longest wait for a client to whom nothing goes but what it asks for, in milliseconds.
+const QUIET_WAIT_MS: u64 = 1000;
 
-// The count of waits in a row without a byte, after which a client is quiet.
-const QUIET: u32 = 20;
+// The longest wait for a client that reads a stream, in milliseconds.
+const STREAM_WAIT_MS: u64 = 50;
 
-/// The time for which a client has sent nothing, and its limit.
+// The longest wait for a client with a lane while no frames are sent, in milliseconds: a lane whose
+// session starts to play isn't filled within it.
+const LANE_WAIT_MS: u64 = 35;
+
+// The longest wait after many frames, or after a request, which may be PLAY, in milliseconds.
+const FULL_LANE_WAIT_MS: u64 = 10;
+
+// The counts of bytes sent between two waits from which frames are among them, and many.
+const FRAMES: usize = 8192;
+
+const MANY_FRAMES: usize = 131_072;
+
+/// The time for which a client neither sent nor was sent anything, and its limit.
 #[derive(Drop)]
 pub(crate) struct Silence {
     kind: DoorKind,
@@ -26,8 +40,13 @@ pub(crate) struct Silence {
     listeners: Arc<Listeners>,
     was_heard: bool,
     was_answered: bool,
-    // Waits without a byte since one was last received or sent.
-    waits: u32,
+    // Whether bytes were received of which no arrival is counted yet.
+    is_new: bool,
+    // The time since the first byte that has no answer, if there is one.
+    asked: Stopwatch,
+    is_asked: bool,
+    // The count of bytes sent since the last wait.
+    sent: usize,
 }
 
 impl Silence {
@@ -45,45 +64,144 @@ impl Silence {
             listeners,
             was_heard: false,
             was_answered: false,
-            waits: 0,
+            is_new: false,
+            asked: Stopwatch::start(rt),
+            is_asked: false,
+            sent: 0,
         }
     }
 
     /// Notes that bytes were received.
     pub(crate) fn hear(&mut self) {
         self.was_heard = true;
-        self.waits = 0;
+        self.is_new = true;
         self.watch.restart();
-        self.listeners.arrivals.add();
-    }
-
-    /// Notes that bytes were sent.
-    pub(crate) fn answer(&mut self) {
-        self.was_answered = true;
-        self.waits = 0;
-    }
-
-    /// Returns the length of the next wait in milliseconds, and counts it.
-    pub(crate) fn wait_ms(&mut self) -> i32 {
-        let reads_stream = self.kind == DoorKind::Http && self.was_answered;
-        if reads_stream || self.waits < QUIET {
-            self.waits = self.waits.saturating_add(1);
-            return BUSY_WAIT_MS;
+        if !self.is_asked {
+            self.is_asked = true;
+            self.asked.restart();
         }
-        QUIET_WAIT_MS
     }
 
-    /// Returns whether the client is given up: it was silent for longer than its limit, or it sent
-    /// nothing in 2 s and others wait at the doors. A client that reads a stream over HTTP has
-    /// nothing to send.
+    /// Notes that this number of bytes is sent.
+    pub(crate) fn answer(&mut self, count: usize) {
+        self.was_answered = true;
+        self.is_asked = false;
+        self.sent = self.sent.saturating_add(count);
+        self.watch.restart();
+    }
+
+    /// Counts an arrival if bytes were received: the events made of them are to be seen.
+    pub(crate) fn show_events(&self) {
+        if self.is_new {
+            self.listeners.arrivals.add_piece();
+        }
+    }
+
+    /// Counts an arrival if bytes were received since the last call: all events of them are made.
+    pub(crate) fn end_piece(&mut self) {
+        self.show_events();
+        self.is_new = false;
+    }
+
+    // Returns whether the client reads a stream over HTTP, and so has nothing to send.
+    fn reads_stream(&self) -> bool {
+        self.kind == DoorKind::Http && self.was_answered
+    }
+
+    /// Returns whether the connection has to end, since the server was asked to.
+    pub(crate) fn has_to_end(&self) -> bool {
+        self.listeners.is_over()
+    }
+
+    /// Returns a wait of this length, or a shorter one if the server may be asked to end.
+    pub(crate) fn cut_ms(&self, wait_ms: u64) -> u64 {
+        self.listeners.wait_ms(wait_ms)
+    }
+
+    /// Returns the length of the next wait in milliseconds. It ends when the client may have to be
+    /// given up. What was received before counts as an arrival.
+    pub(crate) fn next_wait_ms(&mut self) -> u64 {
+        let (asked, sent) = (self.is_new, self.sent);
+        self.end_piece();
+        self.sent = 0;
+        if self.reads_stream() {
+            return STREAM_WAIT_MS;
+        }
+        let longest_ms = match (self.kind, self.listeners.carried) {
+            (DoorKind::Rtsp, Carried::Frames) => lane_wait_ms(asked, sent),
+            _ => QUIET_WAIT_MS,
+        };
+        longest_ms.min(self.left_ms())
+    }
+
+    // Returns the milliseconds until the client may have to be given up.
+    fn left_ms(&self) -> u64 {
+        let silent_ms = self.watch.elapsed_ms();
+        let mut left_ms = left_until(self.limit_ms, silent_ms);
+        if !self.was_heard {
+            left_ms = left_ms.min(left_until(FIRST_BYTE_MS, silent_ms));
+        }
+        if self.is_asked {
+            left_ms = left_ms.min(left_until(self.answer_ms(), self.asked.elapsed_ms()));
+        }
+        left_ms
+    }
+
+    // Returns how long the client's bytes may have no answer while others wait. After one such client
+    // was given up, the next ones have as long as those that send nothing.
+    fn answer_ms(&self) -> u64 {
+        if !self.was_answered && self.listeners.is_crowded() {
+            return FIRST_BYTE_MS;
+        }
+        ANSWER_MS
+    }
+
+    /// Returns whether the client is given up. It was silent for longer than its limit. Or others
+    /// wait at the doors, and it sent nothing in 2 s, or nothing was sent to it for 10 s after it
+    /// sent bytes; for 2 s if it was never sent anything, and there is a crowd of such clients. A
+    /// client that reads a stream over HTTP has nothing to send.
     pub(crate) fn is_over(&self) -> bool {
-        if self.kind == DoorKind::Http && self.was_answered {
+        if self.reads_stream() {
             return false;
         }
         let silent_ms = self.watch.elapsed_ms();
         if silent_ms > self.limit_ms {
             return true;
         }
-        !self.was_heard && silent_ms > FIRST_BYTE_MS && self.listeners.somebody_waits()
+        if !self.was_heard {
+            return silent_ms > FIRST_BYTE_MS && self.listeners.somebody_waits();
+        }
+        let is_late = self.is_asked && self.asked.elapsed_ms() > self.answer_ms();
+        if !is_late || !self.listeners.somebody_waits() {
+            return false;
+        }
+        self.listeners.note_crowd();
+        true
     }
+}
+
+// Returns the longest wait for a client with a lane, after this number of bytes was sent, and bytes
+// were received or not.
+fn lane_wait_ms(asked: bool, sent: usize) -> u64
+    ensures short { result ≤ 50 }
+    ensures many { 131072 < sent → result ≡ 10 }
+{
+    if asked || sent > MANY_FRAMES {
+        return FULL_LANE_WAIT_MS;
+    }
+    if sent > FRAMES {
+        return STREAM_WAIT_MS;
+    }
+    LANE_WAIT_MS
+}
+
+// Returns the milliseconds until more than `limit_ms` have passed; 50 if they have.
+fn left_until(limit_ms: u64, passed_ms: u64) -> u64
+    ensures before { passed_ms ≤ limit_ms → result ≡ min 18446744073709551615 (limit_ms - passed_ms + 1) }
+    ensures after { limit_ms < passed_ms → result ≡ 50 }
+{
+    if passed_ms > limit_ms {
+        return STREAM_WAIT_MS;
+    }
+    (limit_ms - passed_ms).saturating_add(1)
 }

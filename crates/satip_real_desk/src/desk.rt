@@ -4,15 +4,18 @@
 ghost use Rattle.std.specs.Prelude.{◌≡◌, [], None, false, length, IfOk, IfSome};
 ghost use Rattle.satip_base.specs.Streams.{fresh_feed};
 
+use crate::config::check_config;
 use crate::fault::KitsFault;
 use crate::kits::{RealJobs, real_kits};
 use satip_base::{Address, Failed, Peer, ReadSource, Sink, Source, Taken, Text, WriteSink};
+use satip_datagrams::{RealInlet, RealOutlet};
 use satip_desk::{Desk, Devices, JobJournal, JobsFault};
-use satip_host::RealClock;
+use satip_host::{RealClock, Shown};
 use satip_playout::{RealPacer, RealStore};
-use satip_real::{RealConn, RealDoors, RealInlet, RealOutlet};
+use satip_real::{Carried, RealConn, RealDoors};
 use satip_tune::Config;
 use std::alloc::Global;
+use std::fmt::Display;
 use std::fs::File;
 use std::marker::Model;
 use std::rt::Files;
@@ -52,6 +55,7 @@ impl Source for ConfigFile {
 pub struct RealDesk<R: Wait + Copy + Drop + Send> {
     host: HostRuntime,
     rt: R,
+    carried: Carried,
     given: Option<Snapshot<RealJobs<R>>>,
     dialed: Option<Address>,
     bound: bool,
@@ -61,8 +65,9 @@ pub struct RealDesk<R: Wait + Copy + Drop + Send> {
 }
 
 impl<R: Wait + Copy + Drop + Send> RealDesk<R> {
-    /// Creates a desk that never failed and gave nothing.
-    pub fn new(host: HostRuntime, rt: R) -> RealDesk<R>
+    /// Creates a desk that never failed and gave nothing. The RTSP connections of its server carry
+    /// this.
+    pub fn new(host: HostRuntime, rt: R, carried: Carried) -> RealDesk<R>
         ensures given { result.given ≡ None }
         ensures dialed { result.dialed ≡ None }
         ensures bound { result.bound ≡ false }
@@ -73,6 +78,7 @@ impl<R: Wait + Copy + Drop + Send> RealDesk<R> {
         RealDesk {
             host,
             rt,
+            carried,
             given: None,
             dialed: None,
             bound: false,
@@ -91,12 +97,20 @@ fn tell_fault(rt: HostRuntime, fault: &KitsFault) {
     WriteSink::new(rt.stderr()).put(line.as_bytes());
 }
 
-// Logs on standard error why a client has no connection or no inlet.
-fn tell_error(rt: HostRuntime, device: &str, error: &io::Error) {
+// Logs the error of a device, or of a file, on standard error.
+fn tell_error<D: Display + Drop, E: Display + Drop>(rt: HostRuntime, device: D, error: E) {
     let Ok(line) = format!(in rt.alloc(); "{device}: {error}\n") else {
         return;
     };
     WriteSink::new(rt.stderr()).put(line.as_bytes());
+}
+
+// Logs on standard error why a configuration can't be read, or isn't TOML.
+fn tell_config(rt: HostRuntime, name: &Text) {
+    let path = str::from_utf8(name.bytes()).unwrap_or("");
+    if let Err(fault) = check_config(rt, path) {
+        tell_error(rt, Shown(name), fault);
+    }
 }
 
 // Creates the file of a job's journal in the current folder. A file that is there is emptied.
@@ -156,7 +170,7 @@ impl<R: Wait + Copy + Drop + Send> Desk for RealDesk<R> {
         config: &Config,
         accepts: u32,
     ) -> Result<RealJobs<R>, JobsFault> {
-        match real_kits(self.host, self.rt, config, accepts) {
+        match real_kits(self.host, self.rt, config, accepts, self.carried) {
             Ok(jobs) => {
                 self.given = Some(Snapshot::of(&jobs));
                 Ok(jobs)
@@ -171,6 +185,7 @@ impl<R: Wait + Copy + Drop + Send> Desk for RealDesk<R> {
     }
 
     fn config(&mut self, name: &Text) -> Result<ConfigFile, Failed> {
+        tell_config(self.host, name);
         match open(&self.host, name) {
             Some(file) => Ok(file),
             None => {
@@ -187,7 +202,7 @@ impl<R: Wait + Copy + Drop + Send> Desk for RealDesk<R> {
                 Ok(wire)
             }
             Err(error) => {
-                tell_error(self.host, "connection", &error);
+                tell_error(self.host, "connection", error);
                 self.faults = self.faults.saturating_add(1);
                 Err(Failed)
             }
@@ -202,7 +217,7 @@ impl<R: Wait + Copy + Drop + Send> Desk for RealDesk<R> {
                 Ok(inlet)
             }
             Err(error) => {
-                tell_error(self.host, "inlet", &error);
+                tell_error(self.host, "inlet", error);
                 self.faults = self.faults.saturating_add(1);
                 Err(Failed)
             }
@@ -226,7 +241,7 @@ impl<R: Wait + Copy + Drop + Send> Desk for RealDesk<R> {
                 Ok(JobJournal::new(job, WriteSink::new(file)))
             }
             Err(error) => {
-                tell_error(self.host, "journal", &error);
+                tell_error(self.host, "journal", error);
                 self.faults = self.faults.saturating_add(1);
                 Err(Failed)
             }

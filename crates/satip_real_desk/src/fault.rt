@@ -2,7 +2,6 @@
 
 use satip_base::{Text, Want};
 use satip_host::Shown;
-use satip_playout::RecordingFault;
 use satip_real::BindFault;
 use std::alloc::{AllocError, AllocFailed};
 use std::{fmt, io};
@@ -16,16 +15,14 @@ pub enum KitsFault {
     HttpPort(io::Error),
     /// No UDP socket is available at the address.
     Socket(io::Error),
-    /// The recording of a multiplex, by its number and the name of its file, can't be played.
-    Recording {
-        mux: u16,
-        name: Text,
-        fault: RecordingFault,
-    },
     /// `SATIP_PACE` is set to something other than `recording`.
     Pace,
     /// `SATIP_REPEAT` is set to something other than `1`.
     Repeat,
+    /// This variable names no file.
+    Name(&'static str),
+    /// The file that asks a server to end is there.
+    Stopped(Text),
     /// No random bytes are available for a worker's key.
     Key,
     /// Out of memory.
@@ -38,16 +35,16 @@ impl fmt::Display for KitsFault {
             KitsFault::RtspPort(error) => write!(f, "RTSP port: {error}"),
             KitsFault::HttpPort(error) => write!(f, "HTTP port: {error}"),
             KitsFault::Socket(error) => write!(f, "UDP socket: {error}"),
-            KitsFault::Recording { mux, name, fault } => {
+            KitsFault::Pace => f.write_str("SATIP_PACE has no value but recording"),
+            KitsFault::Repeat => f.write_str("SATIP_REPEAT has no value but 1"),
+            KitsFault::Name(name) => write!(f, "{name} has no name of a file"),
+            KitsFault::Stopped(name) => {
                 let name = Shown(name);
                 write!(
                     f,
-                    "recording of mux.{mux}, {name}, can't be played: {fault} (see to its \
-                     permissions; a path without / at its head counts from the folder of the start)"
+                    "{name} asks servers to end (remove it, then start satip)"
                 )
             }
-            KitsFault::Pace => f.write_str("SATIP_PACE has no value but recording"),
-            KitsFault::Repeat => f.write_str("SATIP_REPEAT has no value but 1"),
             KitsFault::Key => write!(f, "no random bytes"),
             KitsFault::Want => write!(f, "out of memory"),
         }

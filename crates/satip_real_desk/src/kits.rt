@@ -7,10 +7,11 @@ ghost use Rattle.satip_real_desk.specs.Unused.{IsUnusedWorker, IsUnusedPump, IsU
 use crate::fault::KitsFault;
 use crate::ready::{recording_lengths, report_ready};
 use crate::shared::Shared;
+use satip_datagrams::RealOutlet;
 use satip_desk::{JobKits, PumpKit, TickKit, WorkerKit};
 use satip_host::{RealClock, read_key};
 use satip_playout::{RealPacer, RealStore};
-use satip_real::{RealDoors, RealOutlet};
+use satip_real::{Carried, RealDoors};
 use satip_tune::Config;
 use std::alloc::Global;
 use std::sync::Wait;
@@ -104,15 +105,16 @@ fn pump_kits<R: Wait + Copy + Drop>(
     Ok(kits)
 }
 
-/// Makes the kits of a configuration. It reads the settings, binds the address and ports, checks
-/// that each recording can be played, and reads a key for each worker. Then it logs on standard
-/// error that the server is ready. Each worker's doors end after `accepts` connections, or never if
-/// it is 0.
+/// Makes the kits of a configuration, for a server whose RTSP connections carry this. It reads the
+/// settings, binds the address and ports, looks for each recording, and reads a key for each
+/// worker. It logs on standard error which recordings can't be played, and then that the server is
+/// ready. Each worker's doors end after `accepts` connections, or never if it is 0.
 pub fn real_kits<R: Wait + Copy + Drop>(
     host: HostRuntime,
     rt: R,
     config: &Config,
     accepts: u32,
+    carried: Carried,
 ) -> Result<RealJobs<R>, KitsFault>
     ensures workers { IfOk result (λ kits. length kits.workers.items ≡ config.now.workers) }
     ensures pumps { IfOk result (λ kits. length kits.pumps.items ≡ length config.now.fronts) }
@@ -122,8 +124,8 @@ pub fn real_kits<R: Wait + Copy + Drop>(
     ensures fresh { IfOk result (AreFreshKits accepts) }
 {
     let alloc = host.alloc();
-    let shared = Shared::open(&host, alloc, config)?;
-    let lengths = recording_lengths(alloc, &shared.store(host, None)?, &config.files)?;
+    let shared = Shared::open(&host, alloc, config, carried)?;
+    let lengths = recording_lengths(&host, &shared.store(host, None)?, &config.files)?;
     let kits = JobKits {
         workers: worker_kits(host, rt, alloc, &shared, config.workers, accepts)?,
         pumps: pump_kits(host, rt, alloc, &shared, config.fronts.len())?,

@@ -5,6 +5,7 @@
 //! line and no kits.
 #![tactic(auto)]
 
+mod config;
 mod desk;
 mod fault;
 mod kits;
@@ -15,4 +16,5 @@ mod shared;
 pub use desk::{ConfigFile, RealDesk};
 pub use fault::KitsFault;
 pub use kits::{RealJobs, real_kits};
+pub use satip_real::Carried;
 pub use settings::Settings;

@@ -1,45 +1,66 @@
-//! Logs that a server is ready.
+//! Logs that a server is ready, and which recordings it can't play.
 
-use crate::fault::KitsFault;
 use crate::settings::Settings;
 use crate::shared::Shared;
 use satip_base::Text;
-use satip_host::{Shown, report_line};
+use satip_host::{Shown, report_line, report_notice};
 use satip_playout::{RealStore, RecordingFault};
 use satip_tune::Config;
-use std::alloc::Global;
+use std::alloc::AllocError;
 use std::fmt;
 use std::net::Ipv4Addr;
 
-/// Returns the length of each recording's file in bytes, or the fault of the first that can't be
-/// played.
+/// Returns the length of each recording's file in bytes; `None` for one that can't be played, which
+/// is logged in one line on standard error.
 pub(crate) fn recording_lengths(
-    alloc: Global,
+    host: &HostRuntime,
     store: &RealStore,
     names: &[Text],
-) -> Result<Vec<u64>, KitsFault> {
-    let mut lengths = Vec::new(alloc);
+) -> Result<Vec<Option<u64>>, AllocError> {
+    let mut lengths = Vec::new(host.alloc());
     for (place, name) in names.iter().enumerate() {
         let mux = u16::try_from(place.saturating_add(1)).unwrap_or(u16::MAX);
-        match store.length(mux) {
-            Ok(length) => lengths.push(length)?,
-            Err(fault) => return Err(refused(alloc, mux, name, fault)),
-        }
+        let length = match store.length(mux) {
+            Ok(length) => Some(length),
+            Err(fault) => {
+                let fault = &fault;
+                report_line(host, NotPlayed { mux, name, fault });
+                None
+            }
+        };
+        lengths.push(length)?;
     }
     Ok(lengths)
 }
 
-// Returns the fault of a recording that can't be played.
-fn refused(alloc: Global, mux: u16, name: &Text, fault: RecordingFault) -> KitsFault {
-    match Text::of(alloc, str::from_utf8(name.bytes()).unwrap_or("")) {
-        Ok(name) => KitsFault::Recording { mux, name, fault },
-        Err(_) => KitsFault::Want,
+// A recording that can't be played.
+#[derive(Drop)]
+struct NotPlayed<'a> {
+    mux: u16,
+    name: &'a Text,
+    fault: &'a RecordingFault,
+}
+
+impl fmt::Display for NotPlayed<'_> {
+    fn fmt<W: fmt::Write>(&self, f: &mut fmt::Formatter<W>) -> fmt::Result {
+        let (mux, name, fault) = (self.mux, Shown(self.name), self.fault);
+        write!(
+            f,
+            "recording of mux.{mux}, {name}, can't be played: {fault} (put it there, readable for \
+             satip: the next client that tunes to it gets it; a path without / at its head counts \
+             from the folder of the start)"
+        )
     }
 }
 
 /// Logs in one line on standard error where a server listens, and what it plays.
-pub(crate) fn report_ready(host: &HostRuntime, config: &Config, shared: &Shared, lengths: &[u64]) {
-    report_line(
+pub(crate) fn report_ready(
+    host: &HostRuntime,
+    config: &Config,
+    shared: &Shared,
+    lengths: &[Option<u64>],
+) {
+    report_notice(
         host,
         Ready {
             address: Ipv4Addr::from(config.address),
@@ -64,7 +85,7 @@ struct Ready<'a> {
     workers: u16,
     settings: Settings,
     names: &'a [Text],
-    lengths: &'a [u64],
+    lengths: &'a [Option<u64>],
 }
 
 impl fmt::Display for Ready<'_> {
@@ -84,17 +105,23 @@ impl fmt::Display for Ready<'_> {
     }
 }
 
-// Writes the number, the name and the length of each recording.
+// Writes the count of recordings, and of those that can be played. Writes the number, the name and
+// the length of each.
 fn write_recordings<W: fmt::Write>(
     f: &mut fmt::Formatter<W>,
     names: &[Text],
-    lengths: &[u64],
+    lengths: &[Option<u64>],
 ) -> fmt::Result {
+    let (count, playable) = (lengths.len(), lengths.iter().flatten().count());
+    write!(f, "; recordings {count}, of which {playable} can be played")?;
     let mut mux = 0u32;
     for (name, length) in names.iter().zip(lengths) {
         mux = mux.saturating_add(1);
         let name = Shown(name);
-        write!(f, "; mux.{mux} {name}, {length} bytes")?;
+        match length {
+            Some(length) => write!(f, "; mux.{mux} {name}, {length} bytes")?,
+            None => write!(f, "; mux.{mux} {name}, can't be played")?,
+        }
     }
     Ok(())
 }

@@ -3,11 +3,19 @@
 ghost use Rattle.std.specs.Prelude.{◌≡◌, ◌≢◌, [], true, false, Some, None};
 
 use crate::fault::KitsFault;
+use satip_base::Text;
+use std::alloc::Global;
 use std::env::{Env, FillError};
 
 const PACE: &str = "SATIP_PACE";
 
 const REPEAT: &str = "SATIP_REPEAT";
+
+/// The variable that names the file that asks the server to end.
+pub(crate) const STOP: &str = "SATIP_STOP";
+
+// The room for the name of a file (PATH_MAX of limits.h).
+const PATH: usize = 4096;
 
 // The room for a setting's value. Each value that a setting has is shorter.
 const ROOM: usize = 16;
@@ -31,6 +39,23 @@ impl Settings {
             return Err(KitsFault::Repeat);
         };
         Ok(Settings { paces, repeats })
+    }
+}
+
+/// Returns the name of the file that a variable names; `None` if it is empty or not set.
+pub(crate) fn read_file(
+    env: &impl Env,
+    alloc: Global,
+    name: &'static str,
+) -> Result<Option<Text>, KitsFault> {
+    let mut buf = [0; PATH];
+    match env.var(name, &mut buf) {
+        Ok(0) | Err(FillError::NotPresent) => Ok(None),
+        Ok(count) => match str::from_utf8(&buf[..count]) {
+            Ok(path) => Ok(Some(Text::of(alloc, path)?)),
+            Err(_) => Err(KitsFault::Name(name)),
+        },
+        Err(FillError::TooLong) => Err(KitsFault::Name(name)),
     }
 }
 

@@ -3,11 +3,12 @@
 ghost use Rattle.std.specs.Prelude.{◌≡◌, IfOk};
 
 use crate::fault::KitsFault;
-use crate::settings::Settings;
+use crate::settings::{STOP, Settings, read_file};
 use satip_base::Text;
-use satip_host::{Arrivals, ClockStart, RealClock, Start, Starts};
-use satip_playout::{Playing, Progress, RealPacer, RealStore};
-use satip_real::{Listeners, RealDoors, RealOutlet, SharedSocket};
+use satip_datagrams::{RealOutlet, SharedSocket};
+use satip_host::{Arrivals, ClockStart, RealClock, Start, Starts, Stop};
+use satip_playout::{Named, Playing, Progress, RealPacer, RealStore};
+use satip_real::{Carried, Listeners, RealDoors};
 use satip_tune::Config;
 use std::alloc::Global;
 use std::sync::{Arc, Wait};
@@ -19,7 +20,7 @@ pub(crate) struct Shared {
     listeners: Arc<Listeners>,
     timeout_s: u32,
     socket: Arc<SharedSocket>,
-    files: Arc<Vec<Text>>,
+    files: Arc<Vec<Named>>,
     pub(crate) settings: Settings,
     clock_start: ClockStart,
     starts: Arc<Starts>,
@@ -33,13 +34,16 @@ impl Shared {
     ghost use Rattle.satip_world.specs.Halls.{fresh_hall};
     ghost use Rattle.satip_world.specs.Outboxes.{fresh_outbox};
 
-    /// Reads the settings and binds the sockets of a configuration.
+    /// Reads the settings and binds the sockets of a configuration, for a server whose RTSP
+    /// connections carry this.
     pub(crate) fn open(
         host: &HostRuntime,
         alloc: Global,
         config: &Config,
+        carried: Carried,
     ) -> Result<Shared, KitsFault> {
         let settings = Settings::read(host)?;
+        let stop = stop_of(host, alloc)?;
         let arrivals = Arrivals::with_places(alloc, config.fronts.len())?;
         let arrivals = Arc::new(alloc, arrivals)?;
         let listeners = Listeners::bind(
@@ -49,16 +53,23 @@ impl Shared {
             config.http_port,
             config.workers,
             Arc::try_clone(&arrivals)?,
+            carried,
         )?;
         let socket = match SharedSocket::bind(*host, config.address) {
             Ok(socket) => socket,
             Err(error) => return Err(KitsFault::Socket(error)),
         };
         Ok(Shared {
-            listeners: Arc::new(alloc, listeners)?,
+            listeners: Arc::new(
+                alloc,
+                match stop {
+                    Some(stop) => listeners.ending_by(stop),
+                    None => listeners,
+                },
+            )?,
             timeout_s: config.timeout,
             socket: Arc::new(alloc, socket)?,
-            files: Arc::new(alloc, copy_all(alloc, &config.files)?)?,
+            files: Arc::new(alloc, name_all(alloc, &config.files)?)?,
             settings,
             clock_start: ClockStart::read(host),
             starts: Arc::new(alloc, Starts::expect(job_count(config)))?,
@@ -146,6 +157,19 @@ impl Shared {
     }
 }
 
+// Returns what asks the server to end, if there may be something. A server doesn't start if it is
+// there already.
+fn stop_of(host: &HostRuntime, alloc: Global) -> Result<Option<Stop>, KitsFault> {
+    let Some(name) = read_file(host, alloc, STOP)? else {
+        return Ok(None);
+    };
+    let stop = Stop::by_file(*host, name);
+    match stop.is_there() {
+        true => Err(KitsFault::Stopped(stop.into_name())),
+        false => Ok(Some(stop)),
+    }
+}
+
 // Counts the jobs: the workers, a pump for each front end, and the ticker.
 fn job_count(config: &Config) -> u64 {
     (config.fronts.len() as u64)
@@ -153,12 +177,12 @@ fn job_count(config: &Config) -> u64 {
         .saturating_add(1)
 }
 
-// Copies texts.
-fn copy_all(alloc: Global, texts: &[Text]) -> Result<Vec<Text>, KitsFault> {
-    let mut copies = Vec::new(alloc);
+// Returns the recordings in files of these names.
+fn name_all(alloc: Global, texts: &[Text]) -> Result<Vec<Named>, KitsFault> {
+    let mut files = Vec::new(alloc);
     for text in texts {
         let text = str::from_utf8(text.bytes()).unwrap();
-        copies.push(Text::of(alloc, text)?)?;
+        files.push(Named::new(alloc, Text::of(alloc, text)?)?)?;
     }
-    Ok(copies)
+    Ok(files)
 }

@@ -36,7 +36,7 @@ loop-preserved g c =
       i.5,
       i.6,
       asked_after _ _ _ _ _ _ _ _ _ _ _ _ c.in-Ok-Nothing.field-0 _ _ nothing runs works,
-      works_pace _ _ _ _ _ _ _ _ _ _ _ _ works refl (paced_idle _ _ _ _ _ _ (paced_owed _ _ _ _ _ _ nothing paced) c.pause.ensures.pauses),
+      works_pace _ _ _ _ _ _ _ _ _ _ _ _ works refl (paced_idle _ _ _ _ _ _ (paced_owed _ _ _ _ _ _ nothing paced) c.pause.ensures.pauses c.pause.ensures.once),
       i.9,
       i.10,
       c.make_work-answer-in-Ok-Nothing.ensures.free,

@@ -35,7 +35,7 @@ returns-then-pump-eq-PLACES-clause-paces g c = λ own first paced.
     omega (arith, c.count-before.ensures.count, c.count.ensures.count, c.give-answer.ensures.fewer) in
     paced_full _ _ _ _ _ _ _ c.if-pump-eq-PLACES.true
     (gave_paces _ _ _ _ _ _ _ _ _ _ _ _ own first _ _ _ c.give-answer.ensures.gave (of_itself c.args.tuning.0 c.args.tuning.1) size paced)
-    c.pause.ensures.pauses
+    c.pause.ensures.pauses c.pause.ensures.once
 
 pub returns-else-pump-eq-PLACES-clause-paces : goal.returns-else-pump-eq-PLACES-clause-paces
 returns-else-pump-eq-PLACES-clause-paces g c = λ own first paced.

@@ -11,7 +11,7 @@ returns-in-Some-tick-clause-run g c =
 
 pub returns-in-Some-tick-clause-pauses : goal.returns-in-Some-tick-clause-pauses
 returns-in-Some-tick-clause-pauses g c =
-    ticks_pause _ _ _ _ _ _ _ _ _ _ _ _ c.loop.invariant.4 c.pause.ensures.pauses c.in-Some-tick.ensures.ticked
+    ticks_pause _ _ _ _ _ _ _ _ _ _ _ _ c.loop.invariant.4 c.pause.ensures.pauses c.pause.ensures.once c.in-Some-tick.ensures.ticked
 
 pub loop-preserved : goal.loop-preserved
 loop-preserved g c = (
@@ -19,6 +19,6 @@ loop-preserved g c = (
   tt,
   g.met.S.Service.same_then _ _ _ c.loop.invariant.2 c.tick.ensures.same,
   ticks_more (g.S.Service.may_want c.loop.service) _ _ _ _ _ _ _ _ _ _ _ c.loop.invariant.3 c.now-now.ensures.reads c.in_default.ensures.ticked,
-  ticks_paced_more _ _ _ _ _ _ _ c.loop.invariant.4 c.pause.ensures.pauses c.in_default.ensures.ticked.adds.own,
+  ticks_paced_more _ _ _ _ _ _ _ c.loop.invariant.4 c.pause.ensures.pauses c.pause.ensures.once c.in_default.ensures.ticked.adds.own,
   c.tick.ensures.free,
 )

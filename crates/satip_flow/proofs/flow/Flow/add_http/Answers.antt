@@ -1,4 +1,4 @@
-use Rattle.std.proofs.Common.{None, ◌≡◌, ◌+◌, ◌<◌, false, cond, [], vec_len, sym, ap, subst, ◌∙◌, arith}
+use Rattle.std.proofs.Common.{true, None, ◌≡◌, ◌+◌, ◌<◌, false, cond, [], vec_len, sym, ap, subst, ◌∙◌, arith}
 use Rattle.std.proofs.lemmas.List.Elements.{All-pop}
 use Rattle.std.specs.List.{list_any}
 use Rattle.std.specs.Vec.{with_items}
@@ -7,7 +7,7 @@ use Rattle.circular_buffer.specs.Buffer.{buffer}
 use Rattle.satip_flow.specs.Subscription.{has_slot, subscription, ToQueue}
 use Rattle.satip_flow.specs.Subscriptions.{put, SlotsApart}
 use Rattle.satip_flow.specs.Queues.{has_queue}
-use Rattle.satip_flow.specs.Rows.{IsMarked, IsPlaced, KeepsSlots, Shows}
+use Rattle.satip_flow.specs.Rows.{IsLike, IsMarked, IsPlaced, KeepsSlots, Shows}
 use Rattle.satip_flow.proofs.Slots.{apart-put}
 use Rattle.satip_flow.proofs.Marking.{marked_put, nobody_shown}
 use Rattle.satip_flow.proofs.RoomLemmas.{sound_put, queue_left}
@@ -32,7 +32,7 @@ note_places-requires-clause-apart c =
     let is = c.queued.ensures.subscription in
     let free = rw (← c.self.view_is) at c.requires.free in
     let xs = c.self.inside.subscribers.items in
-    subst (λ ys. SlotsApart ys) (sym (c.deref.ensures.value ∙ c.insert_ordered.ensures.added))
+    subst (λ ys. SlotsApart ys) (sym (c.deref-2.ensures.value ∙ c.insert_ordered.ensures.added))
     (apart-put s xs (subst (λ s. s.place.slot < 64) (sym is) c.requires.slot) (subst (λ s. list_any (has_slot s.place.slot) xs ≡ false) (sym is) free)
     c.self.invariant.apart)
 
@@ -55,8 +55,10 @@ invariant_of-self c =
     let rows = c.self.inside.rows.items in
     let new = c.remark.new.rows in
     let others = subst (λ rs. KeepsSlots own rs new) c.deref_mut.ensures.value c.remark.ensures.others in
+    let like = subst (λ ys. c.is_like-is_alike.result ≡ true → IsLike c.self.inside.alike ys c.args.place.stream c.args.front c.args.pids.now)
+    c.deref.ensures.value c.is_like-is_alike.ensures.like in
     let marked = marked_put rows new c.self.inside.alike own xs one c.slot_bit-own.type_inv c.slot_bit-own.ensures.bits free c.requires.front
-    c.remark.ensures.shown others c.self.invariant.marked in
+    c.remark.ensures.shown others c.is_like-is_alike.result like c.self.invariant.marked in
     let whole = with_items_is c.self.inside.rows new (c.remark.ensures.count ∙ sym c.self.invariant.row_count) in
     let left = rw c.unwrap-queue.ensures at c.pop.ensures.len in
     let rest = All-pop (λ queue. queue ≡ buffer [] 4096) c.self.inside.spare_queues.items c.pop.new.self.items c.pop.result c.pop.ensures.items
@@ -76,5 +78,5 @@ invariant_of-self c =
     (subst (λ rows. IsMarked rows c.with_slots-self-inside.result (put s xs)) (sym whole)
     (subst (λ s. IsMarked new c.with_slots-self-inside.result (put s xs)) (sym is)
     (subst (λ n. IsMarked new n (put one xs)) (sym c.with_slots-self-inside.ensures.written) marked)))
-    (subst (λ ys. IsPlaced c.note_places.new.places ys) c.deref.ensures.value c.note_places.ensures.placed)
+    (subst (λ ys. IsPlaced c.note_places.new.places ys) c.deref-2.ensures.value c.note_places.ensures.placed)
     c.self.invariant

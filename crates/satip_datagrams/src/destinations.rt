@@ -1,11 +1,12 @@
 //! A connected UDP socket for each destination.
 
 use crate::addresses::socket_addr;
-use crate::errors::lacks_room;
+use crate::errors::{Refusal, refusal_of};
 use crate::options::widen;
+use crate::tallies::{Refusals, Tallies};
 use mio::net::UdpSocket;
 use satip_base::Address;
-use satip_host::{Throttle, report_line};
+use satip_host::Throttle;
 use std::io;
 
 // The limit of destinations that have a socket: RTP and RTCP of 64 sessions.
@@ -30,9 +31,7 @@ pub(crate) struct Destinations {
     // The place after that of the last destination found.
     next: usize,
     sends: u64,
-    refused: u64,
-    // The count of those refused when `due` was last called.
-    seen: u64,
+    tallies: Tallies,
     reports: Throttle,
 }
 
@@ -61,8 +60,7 @@ impl Destinations {
             connected: Vec::with_capacity(rt.alloc(), SOCKETS)?,
             next: 0,
             sends: 0,
-            refused: 0,
-            seen: 0,
+            tallies: Tallies::new(rt.alloc()),
             reports: Throttle::new(),
         })
     }
@@ -110,61 +108,44 @@ impl Destinations {
     }
 
     /// Sends a datagram, whole or not at all. An error may be that of the last datagram to the same
-    /// destination (udp(7), ECONNREFUSED), so this one is tried once more.
+    /// destination (udp(7)), so this one is tried once more. That no program listens at its port is
+    /// such an error: it counts, whatever becomes of this datagram.
     pub(crate) fn send(&mut self, to: Address, bytes: &[u8]) -> bool {
-        let sent = match self.try_send(to, bytes) {
-            Err(error) if !lacks_room(&error) => self.try_send(to, bytes),
-            sent => sent,
-        };
-        match sent {
+        match self.try_send(to, bytes) {
+            Ok(count) => return count == bytes.len(),
+            Err(error) => match refusal_of(&error) {
+                Refusal::NoRoom => {
+                    self.tallies.count(to, Refusal::NoRoom);
+                    return false;
+                }
+                Refusal::Unheard => self.tallies.count(to, Refusal::Unheard),
+                _ => {}
+            },
+        }
+        match self.try_send(to, bytes) {
             Ok(count) => count == bytes.len(),
             Err(error) => {
-                self.give_up(to, &error);
+                self.give_up(to, refusal_of(&error));
                 false
             }
         }
     }
 
-    // Counts a datagram for which there was no room. A socket that refused one twice for another
-    // reason may be broken: it is closed, and the next datagram gets a new one.
-    fn give_up(&mut self, to: Address, error: &io::Error) {
-        if lacks_room(error) {
-            self.refused = self.refused.saturating_add(1);
-        } else {
+    // Counts a datagram that was refused twice. If that isn't for want of room, its socket may be
+    // broken: it is closed, and the next datagram gets a new one.
+    fn give_up(&mut self, to: Address, cause: Refusal) {
+        self.tallies.count(to, cause);
+        if cause != Refusal::NoRoom {
             self.connected.retain(|entry| entry.to != to);
         }
     }
 
-    /// Returns the count of datagrams without room, if there are some since the last call and a
-    /// line on them is due. A line is due at most once a minute.
+    /// Returns the counts of refused datagrams, if one rose since the last time and a line on them
+    /// is due. A line is due at most once a minute.
     pub(crate) fn due(&mut self) -> Option<Refusals> {
-        let seen = self.seen;
-        self.seen = self.refused;
-        if seen == self.refused || !self.reports.is_due(&self.rt) {
+        if !self.tallies.has_news() || !self.reports.is_due(&self.rt) {
             return None;
         }
-        let (rt, count) = (self.rt, self.refused);
-        Some(Refusals { rt, count })
-    }
-}
-
-/// The count of datagrams without room since the start.
-#[derive(Drop)]
-pub(crate) struct Refusals {
-    rt: HostRuntime,
-    count: u64,
-}
-
-impl Refusals {
-    /// Reports the count in a line on standard error.
-    pub(crate) fn report(&self) {
-        let count = self.count;
-        report_line(
-            &self.rt,
-            format_args!(
-                "datagrams refused since the start by full send buffers: {count} (for larger \
-                 ones: sysctl net.core.wmem_max)"
-            ),
-        );
+        Some(self.tallies.take_news(self.rt))
     }
 }
