@@ -611,8 +611,8 @@ class Asked(InAFolder):
         self.assertEqual(told["uncounted"], [f"127.0.0.1:{port}"])
         kind, rate = kinds["%s:%d" % line.getsockname()]
         self.assertEqual(kind, "HTTP")
-        # 64 packets each 20 ms.
-        self.assertAlmostEqual(rate / 4_812_800, 1, delta=0.2)
+        # 64 packets each 20 ms, on a machine that may be busy; trials/watched_server.py looks closer.
+        self.assertTrue(0.3 < rate / 4_812_800 < 2, rate)
         self.assertEqual(told["open"], 2)
         self.assertEqual([(it["pids"], it["plays"]) for it in told["streams"]], [("all", True)] * 2)
         self.assertIn("no status file, so this is what the system knows; connections 2", text)
