@@ -3,8 +3,8 @@
 It looks at the form of the file (with line and column), at keys that are unknown or out of their
 limits, at each recording (there, readable, transport packets, rate), at both ports, and at the
 variables of the environment that a server reads. With --wait-for-ports it waits that long for a
-server that is about to end. A warning is what a server ignores, or a viewer
-would miss.
+server that is about to end. A warning is what a server ignores, or a viewer would miss: a server
+starts without a recording that can't be played.
 
 The status is 0 if nothing was found, 1 if there are warnings, 2 if a server would not start. File
 names count from the folder that this is started in, as for `satip serve`.
@@ -98,9 +98,9 @@ def unreached(config):
 
 
 def reader_of(user):
-    """Whether a path can be read by the user that a server will run as, and whether that is known."""
+    """Says of a path whether the user that a server will run as can read it."""
     if user is None and os.geteuid() != 0:
-        return lambda path: (os.access(path, os.R_OK), False)
+        return lambda path: os.access(path, os.R_OK)
     # The unit's user is any user.
     try:
         entry = pwd.getpwnam(user or "nobody")
@@ -109,13 +109,13 @@ def reader_of(user):
     if os.geteuid() != 0 and entry.pw_uid != os.geteuid():
         raise configuration.Fault("only root can look as another user")
     if entry.pw_uid == os.geteuid():
-        return lambda path: (os.access(path, os.R_OK), False)
+        return lambda path: os.access(path, os.R_OK)
     groups = os.getgrouplist(entry.pw_name, entry.pw_gid)
 
     def can_read(path):
         words = ["test", "-r", path]
         ids = {"user": entry.pw_uid, "group": entry.pw_gid, "extra_groups": groups}
-        return subprocess.run(words, check=False, **ids).returncode == 0, user is None
+        return subprocess.run(words, check=False, **ids).returncode == 0
 
     return can_read
 
@@ -125,37 +125,36 @@ def recordings(config, can_read):
     found = []
     for place, mux in enumerate(config.muxes()):
         line = config.line_of("mux", place, "file")
-        for told, is_warning in recording(mux["file"], can_read):
+        for told in recording(mux["file"], can_read):
             text = f"recording of mux.{place + 1}, {mux['file']}: {told}"
-            found.append(Finding(line, text, is_warning))
+            found.append(Finding(line, text, is_warning=True))
     return found
 
 
 def recording(path, can_read):
-    """What is wrong with a recording, and whether a server starts all the same."""
+    """What is wrong with a recording."""
     try:
         mode = os.stat(path).st_mode
     except (OSError, ValueError) as error:
-        yield getattr(error, "strerror", None) or "no name of a file", False
+        yield getattr(error, "strerror", None) or "no name of a file"
         return
     if not stat.S_ISREG(mode):
-        yield "no regular file", False
+        yield "no regular file"
         return
-    readable, is_guess = can_read(path)
-    if not readable:
-        yield "a user that isn't root can't read it" if is_guess else "it can't be read", is_guess
+    if not can_read(path):
+        yield "it can't be read by the user of a server"
         return
     try:
         head = packets.look(path)
     except OSError as error:
-        yield error.strerror, False
+        yield error.strerror
         return
     if head.fault:
-        yield head.fault, True
+        yield head.fault
     elif head.rate is None:
-        yield "no program clock references, so its own rate isn't known", True
+        yield "no program clock references, so its own rate isn't known"
     elif os.environ.get("SATIP_PACE") is None and not 0.9 < EVEN_PACE / head.rate < 1.1:
-        yield f"{rate_text(head.rate)}, and it plays at {rate_text(EVEN_PACE)} without SATIP_PACE", True
+        yield f"{rate_text(head.rate)}, and it plays at {rate_text(EVEN_PACE)} without SATIP_PACE"
 
 
 def ports_within(config, seconds):

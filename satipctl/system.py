@@ -53,14 +53,16 @@ def destinations(port):
 
 
 def read(rtsp_port, http_port):
-    """A status without counts of the server; `uptime` only orders two of them."""
+    """A status without counts of the server; its `uptime` is a moment between asking and answer."""
+    asked = time.monotonic()
+    found = list(connections((rtsp_port, http_port)))
     return Status(
         version=None,
         start=None,
-        uptime=time.monotonic(),
+        uptime=(asked + time.monotonic()) / 2,
         taken=None,
         refused={},
         lines=None,
-        connections=list(connections((rtsp_port, http_port))),
+        connections=found,
         destinations=list(destinations(rtsp_port)),
     )

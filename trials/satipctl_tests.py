@@ -238,8 +238,8 @@ class Check(InAFolder):
         os.remove(self.path("b.ts"))
         os.mkdir(self.path("b.ts"))
         status, _, errors = self.check(GOOD, "--no-ports")
-        self.assertEqual(status, 2)
-        self.assertIn(":22: fault: recording of mux.2, b.ts: no regular file", errors)
+        self.assertEqual(status, 1)
+        self.assertIn(":22: warning: recording of mux.2, b.ts: no regular file", errors)
 
     def test_a_recording_that_others_cannot_read(self):
         if os.geteuid() != 0:
@@ -247,7 +247,7 @@ class Check(InAFolder):
         self.write(CLOCKED, "b.ts")
         os.chmod(self.path("b.ts"), 0o600)
         self.assertEqual(self.check(GOOD, "--no-ports")[0], 1)
-        self.assertEqual(self.check(GOOD, "--no-ports", "--user", "nobody")[0], 2)
+        self.assertEqual(self.check(GOOD, "--no-ports", "--user", "nobody")[0], 1)
         self.assertEqual(self.check(GOOD, "--no-ports", "--user", "root")[0], 0)
 
     def test_ports(self):
@@ -611,8 +611,8 @@ class Asked(InAFolder):
         self.assertEqual(told["uncounted"], [f"127.0.0.1:{port}"])
         kind, rate = kinds["%s:%d" % line.getsockname()]
         self.assertEqual(kind, "HTTP")
-        # 64 packets each 20 ms.
-        self.assertAlmostEqual(rate / 4_812_800, 1, delta=0.2)
+        # 64 packets each 20 ms, on a machine that may be busy; trials/watched_server.py looks closer.
+        self.assertTrue(0.3 < rate / 4_812_800 < 2, rate)
         self.assertEqual(told["open"], 2)
         self.assertEqual([(it["pids"], it["plays"]) for it in told["streams"]], [("all", True)] * 2)
         self.assertIn("no status file, so this is what the system knows; connections 2", text)

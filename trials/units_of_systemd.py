@@ -170,14 +170,16 @@ class Trial:
     def mended(self):
         """A configuration that can't be served yet."""
         path = f"{self.root}/etc/satip/late.toml"
+        text = configuration("127.0.0.1", (8554, 8876), files=("/srv/a.ts",))
         with open(path, "w", encoding="ascii") as file:
-            file.write(configuration("127.0.0.1", (8554, 8876), files=("/srv/none.ts",)))
+            file.write(text.replace("workers = 8", "workers = 65"))
         well, took = self.start("satip@late")
         self.check(not well, f"systemctl start fails after {seconds(took)}")
         said = self.system.says("journalctl", "--no-pager", "-o", "cat", "-u", "satip@late")
-        line = "late.toml:15: fault: recording of mux.1, /srv/none.ts: No such file or directory"
+        line = "late.toml:5: fault: workers is 65; allowed is 1 to 64"
         self.check(line in said, f"the journal of the system has the line: {line}")
-        shutil.copy(f"{self.root}/srv/a.ts", f"{self.root}/srv/none.ts")
+        with open(path, "w", encoding="ascii") as file:
+            file.write(text)
         took = self.system.wait_until_active(unit="satip@late")
         self.check(took is not None, f"mended, it is active after {seconds(took)}")
         self.system.inside("systemctl", "stop", "satip@late")
