@@ -1,4 +1,4 @@
-"""Reads the file that a server writes with SATIP_STATUS. docs/SYSTEM.md has its form.
+"""Reads the status file of a server, which SATIP_STATUS names. This version of the server writes none.
 
 No other module knows the names of its fields.
 """
