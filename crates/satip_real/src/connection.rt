@@ -25,7 +25,8 @@ const SERVER_WAIT_MS: u64 = 1;
 /// A receive from a client waits for bytes, and is idle if none came. It waits up to
 /// - 50 ms for an HTTP client that was sent something;
 /// - 35 ms for an RTSP client to whom frames may go; 10 ms after bytes were received, or more than
-///   131072 were sent, since the last receive; 50 ms after more than 8192 were;
+///   131072 were sent, since the last receive; 50 ms after more than 8192 were, if none of the last
+///   32 receives came after more than 131072;
 /// - a second for any other client.
 ///
 /// A byte ends each wait. A client is silent while it sends nothing and nothing is sent to it. Over
@@ -33,7 +34,7 @@ const SERVER_WAIT_MS: u64 = 1;
 /// - if the client is silent for longer than the doors' timeout;
 /// - if others wait at the doors, and the client has sent nothing for 2 s since it came;
 /// - if others wait at the doors, and nothing was sent to the client for 10 s after it sent bytes;
-///   for 2 s if it was never sent anything, one such client was given up, and others waited since.
+///   for 0.5 s if it was never sent anything, one such client was given up, and others waited since.
 ///
 /// A wait ends when one of these times does. What a client sent counts as an arrival at the next
 /// receive, when its connection is closed, and when a send has to wait.

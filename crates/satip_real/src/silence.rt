@@ -13,6 +13,9 @@ const FIRST_BYTE_MS: u64 = 2000;
 // How long a client whose bytes have no answer is waited for while others wait, in milliseconds.
 const ANSWER_MS: u64 = 10_000;
 
+// The same for a client of a crowd that was never sent anything, in milliseconds.
+const CROWD_MS: u64 = 500;
+
 // The longest wait for a client to whom nothing goes but what it asks for, in milliseconds.
 const QUIET_WAIT_MS: u64 = 1000;
 
@@ -31,6 +34,9 @@ const FRAMES: usize = 8192;
 
 const MANY_FRAMES: usize = 131_072;
 
+// The count of waits in a row without many frames, after which a stream is a slow one.
+const SLOW: u32 = 32;
+
 /// The time for which a client neither sent nor was sent anything, and its limit.
 #[derive(Drop)]
 pub(crate) struct Silence {
@@ -45,8 +51,9 @@ pub(crate) struct Silence {
     // The time since the first byte that has no answer, if there is one.
     asked: Stopwatch,
     is_asked: bool,
-    // The count of bytes sent since the last wait.
+    // The count of bytes sent since the last wait, and of waits since one with many.
     sent: usize,
+    calm: u32,
 }
 
 impl Silence {
@@ -68,6 +75,7 @@ impl Silence {
             asked: Stopwatch::start(rt),
             is_asked: false,
             sent: 0,
+            calm: 0,
         }
     }
 
@@ -124,11 +132,12 @@ impl Silence {
         let (asked, sent) = (self.is_new, self.sent);
         self.end_piece();
         self.sent = 0;
+        self.calm = calm_waits(self.calm, sent);
         if self.reads_stream() {
             return STREAM_WAIT_MS;
         }
         let longest_ms = match (self.kind, self.listeners.carried) {
-            (DoorKind::Rtsp, Carried::Frames) => lane_wait_ms(asked, sent),
+            (DoorKind::Rtsp, Carried::Frames) => lane_wait_ms(asked, sent, self.calm),
             _ => QUIET_WAIT_MS,
         };
         longest_ms.min(self.left_ms())
@@ -148,17 +157,17 @@ impl Silence {
     }
 
     // Returns how long the client's bytes may have no answer while others wait. After one such client
-    // was given up, the next ones have as long as those that send nothing.
+    // was given up, the next ones have less.
     fn answer_ms(&self) -> u64 {
         if !self.was_answered && self.listeners.is_crowded() {
-            return FIRST_BYTE_MS;
+            return CROWD_MS;
         }
         ANSWER_MS
     }
 
     /// Returns whether the client is given up. It was silent for longer than its limit. Or others
     /// wait at the doors, and it sent nothing in 2 s, or nothing was sent to it for 10 s after it
-    /// sent bytes; for 2 s if it was never sent anything, and there is a crowd of such clients. A
+    /// sent bytes; for 0.5 s if it was never sent anything, and there is a crowd of such clients. A
     /// client that reads a stream over HTTP has nothing to send.
     pub(crate) fn is_over(&self) -> bool {
         if self.reads_stream() {
@@ -180,16 +189,27 @@ impl Silence {
     }
 }
 
-// Returns the longest wait for a client with a lane, after this number of bytes was sent, and bytes
-// were received or not.
-fn lane_wait_ms(asked: bool, sent: usize) -> u64
+// Returns the count of waits in a row without many frames, after one that follows `sent` bytes.
+fn calm_waits(calm: u32, sent: usize) -> u32
+    ensures many { 131072 < sent → result ≡ 0 }
+    ensures few { sent ≤ 131072 → result ≡ min 4294967295 (calm + 1) }
+{
+    if sent > MANY_FRAMES {
+        return 0;
+    }
+    calm.saturating_add(1)
+}
+
+// Returns the longest wait for a client with a lane, after this number of bytes was sent, bytes were
+// received or not, and this number of waits in a row was without many frames.
+fn lane_wait_ms(asked: bool, sent: usize, calm: u32) -> u64
     ensures short { result ≤ 50 }
     ensures many { 131072 < sent → result ≡ 10 }
 {
     if asked || sent > MANY_FRAMES {
         return FULL_LANE_WAIT_MS;
     }
-    if sent > FRAMES {
+    if calm > SLOW && sent > FRAMES {
         return STREAM_WAIT_MS;
     }
     LANE_WAIT_MS
