@@ -59,6 +59,7 @@ fn tune<R: Wait, S: Service, M: MuxStore, O: Outlet, P: Pacer>(
     kit: &mut PumpKit<M, O, P>,
     pump: &mut Pump<M::From>,
     tuning: (u16, u64),
+    room: &mut S::Room,
     out: &mut Out,
     batch: &mut Batch,
 ) -> Result<Work, ServiceFault>
@@ -101,6 +102,7 @@ fn tune<R: Wait, S: Service, M: MuxStore, O: Outlet, P: Pacer>(
         (pump.front, tune),
         Work::Tune { mux, tune },
         &mut pump.reading.buffer,
+        room,
         out,
         batch,
     );
@@ -144,6 +146,7 @@ pub fn run_pump<R: Wait + Sync, S: Service, M: MuxStore, O: Outlet, P: Pacer>(
         reading: Reading::new(),
         since: 0,
     };
+    let mut room = S::room();
     let mut answer = make_work(service, &mut kit.outlet, &Event::Ask { front }, out);
     for _ in rt.forever() {
         match answer {
@@ -153,6 +156,7 @@ pub fn run_pump<R: Wait + Sync, S: Service, M: MuxStore, O: Outlet, P: Pacer>(
                 kit,
                 &mut pump,
                 (mux, number),
+                &mut room,
                 out,
                 batch,
             ),
