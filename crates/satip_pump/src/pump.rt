@@ -74,7 +74,8 @@ fn tune<R: Wait, S: Service, M: MuxStore, O: Outlet, P: Pacer>(
         (pump_now S.known M.shelf O.outbox service.old store.old outlet.old pump.old.reading)
         (Work.Tune tuning.0 tuning.1)
         → Answered (S.may_want service.old) O.tells M.From.tells M.From.feed pump.old.front o
-        (pump_now S.known M.shelf O.outbox service.new store.new outlet.new pump.new.reading) result }
+        (pump_now S.known M.shelf O.outbox service.new store.new outlet.new pump.new.reading)
+        result }
     ensures paces { (own : List Item) (first : ℕ)
         → Paced own (S.known service.old).own first (P.pauses pacer.old) pump.old.since 0
         → Paced own (S.known service.new).own first (P.pauses pacer.new) pump.new.since
@@ -132,7 +133,8 @@ pub fn play_recordings<R: Wait + Sync, S: Service, M: MuxStore, O: Outlet, P: Pa
     requires free { (O.outbox outlet.old).held ≡ false }
     ensures free { (O.outbox outlet.new).held ≡ false }
     ensures same { S.same service.old service.new }
-    ensures run { PumpRun O.tells front (play_state S.known M.shelf O.outbox service.old store.old outlet.old)
+    ensures run { PumpRun O.tells front
+        (play_state S.known M.shelf O.outbox service.old store.old outlet.old)
         (play_state S.known M.shelf O.outbox service.new store.new outlet.new) result }
     ensures pauses { PumpPauses (S.known service.old).own (S.known service.new).own
         (P.pauses pacer.old) (P.pauses pacer.new) }
