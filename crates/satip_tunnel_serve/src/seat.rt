@@ -4,7 +4,7 @@ ghost use Rattle.std.specs.Prelude.{◌≡◌, false};
 ghost use Rattle.satip_desk.specs.Views.{worker_view, pump_view, tick_view};
 ghost use Rattle.satip_serve.specs.Deeds.{job_state};
 ghost use Rattle.satip_tunnel.specs.Seats.{seated};
-ghost use Rattle.satip_tunnel_serve.specs.Deeds.{SeatDid, SilentPumpDid, SilentTickerDid, WorkedAtSeat, doors_tell, pump_deed, ticker_deed};
+ghost use Rattle.satip_tunnel_serve.specs.Deeds.{SilentPumpDid, SilentTickerDid, WorkedAtSeat, doors_tell};
 
 use crate::end::tell_worker;
 use satip_base::Out;
