@@ -19,20 +19,21 @@ use satip_plain::{Event, Service, ServiceFault, Work};
 use satip_world::{MuxStore, Outlet, Pacer};
 use std::sync::Wait;
 
-// A pump: its front end, its reading, and the number of packets that it gave since it last paused
-// for packets.
+// A pump: its front end, its reading, the number of packets that it gave since it last paused for
+// packets, and the room for the events of its bursts.
 #[derive(Drop)]
-struct Pump<F> {
+struct Pump<F, R> {
     front: u16,
     reading: Reading<F>,
     since: usize,
+    room: R,
 }
 
 // Submits the end of the recording. No source is held then.
 fn tell_end<S: Service, F, O: Outlet>(
     service: &mut S,
     outlet: &mut O,
-    pump: &Pump<F>,
+    pump: &Pump<F, S::Room>,
     tune: u64,
     out: &mut Out,
 ) -> Result<Work, ServiceFault>
@@ -59,7 +60,7 @@ fn tune<R: Wait, S: Service, M: MuxStore, O: Outlet, P: Pacer>(
     store: &mut M,
     outlet: &mut O,
     pacer: &mut P,
-    pump: &mut Pump<M::From>,
+    pump: &mut Pump<M::From, S::Room>,
     tuning: (u16, u64),
     out: &mut Out,
     batch: &mut Batch,
@@ -104,6 +105,7 @@ fn tune<R: Wait, S: Service, M: MuxStore, O: Outlet, P: Pacer>(
         (pump.front, tune),
         Work::Tune { mux, tune },
         &mut pump.reading.buffer,
+        &mut pump.room,
         out,
         batch,
     );
@@ -149,6 +151,7 @@ pub fn play_recordings<R: Wait + Sync, S: Service, M: MuxStore, O: Outlet, P: Pa
         front,
         reading: Reading::new(),
         since: 0,
+        room: S::room(),
     };
     let mut answer = make_work(service, outlet, &Event::Ask { front }, out);
     for _ in rt.forever() {
