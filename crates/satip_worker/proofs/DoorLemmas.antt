@@ -6,8 +6,9 @@ use Rattle.satip_world.specs.Halls.{Hall, Arrival, Return, HadNone, Moved}
 use Rattle.satip_world.specs.Lines.{Line, fresh_line}
 use Rattle.satip_world.specs.Pausing.{RisesBy}
 use Rattle.satip_world.proofs.PausingLemmas.{rises_none, rises_once, rises_then, rises_same}
-use Rattle.satip_worker.specs.Pauses.{PausesWhenIdle}
-use Rattle.satip_worker.specs.DoorPauses.{PausesServed, PausesOne, PausesAtDoors, idles_in, spared_in}
+use Rattle.satip_worker.proofs.PauseLemmas.{rises_kept}
+use Rattle.satip_worker.specs.Pauses.{PausesWhenIdle, PausesServed}
+use Rattle.satip_worker.specs.DoorPauses.{PausesOne, PausesAtDoors, idles_in, spared_in}
 
 -- each receive that found nothing was followed by a pause
 pub served_exactly : (spared : ℕ) (l m : Line) (p q : ℕ) → PausesWhenIdle l m p q → PausesServed spared l m p q
@@ -82,27 +83,24 @@ module _ (spared : ℕ) (o m n : Hall) (p q : ℕ) (x : PausesAtDoors spared o m
 
   -- no connection was handed back, and there was no pause
   pub doors_kept : (came : List Arrival) → Moved m n came [] → n.idles ≡ m.idles → PausesAtDoors spared o n p q
-  doors_kept came content same =
-      let P : ℕ → Type 0 = λ i. RisesBy x.waits o.idles i in
-      record {
-        waits = x.waits;
-        waited = subst P (sym same) x.waited;
-        returns = x.returns;
-        moved = same_returns came content;
-        idles = x.idles;
-        found = x.found;
-        paused = x.paused;
-        least = x.least;
-        most = x.most;
-        pauses = x.pauses;
-      }
+  doors_kept came content same = record {
+    waits = x.waits;
+    waited = rises_kept x.waits o.idles m.idles n.idles x.waited same;
+    returns = x.returns;
+    moved = same_returns came content;
+    idles = x.idles;
+    found = x.found;
+    paused = x.paused;
+    least = x.least;
+    most = x.most;
+    pauses = x.pauses;
+  }
 
   -- a connection was served and handed back
   pub doors_served : (r : ℕ) (line : Line) (came : Arrival) (end : ConnEnd) → line ≡ fresh_line → PausesOne spared line m n came end q r
       → PausesAtDoors spared o n p r
   doors_served r line came end fresh one =
       let back : Return = record { kind = came.kind; peer = came.peer; line = one.later; end = end } in
-      let W : ℕ → Type 0 = λ i. RisesBy x.waits o.idles i in
       let L : Line → Type 0 = λ l. RisesBy one.served.idles l.idles one.later.idles in
       let least = x.least in
       let most = x.most in
@@ -110,7 +108,7 @@ module _ (spared : ℕ) (o m n : Hall) (p q : ℕ) (x : PausesAtDoors spared o m
       let most_here = one.served.most in
       record {
         waits = x.waits;
-        waited = subst W (sym one.back.idles) x.waited;
+        waited = rises_kept x.waits o.idles m.idles n.idles x.waited one.back.idles;
         returns = x.returns ++ back ∷ [];
         moved = λ told. one.back.content.returned told
             ∙ ap (λ (rs : List Return). rs ++ back ∷ []) (x.moved (one.back.content.told told)) ∙ append_assoc o.returned x.returns (back ∷ []);

@@ -4,6 +4,7 @@ use Rattle.satip_world.specs.declared.doors.ConnEnd.{ConnEnd}
 use Rattle.satip_world.specs.Halls.{Hall, Arrival, HandsBack, Return}
 use Rattle.satip_world.specs.Lines.{Line}
 use Rattle.satip_world.specs.Pausing.{RisesBy}
+use Rattle.satip_worker.specs.Pauses.{PausesServed}
 
 -- the number of receives that found nothing on these connections
 abbrev pub idles_in : List Return → ℕ
@@ -14,15 +15,6 @@ idles_in (r ∷ rs) = r.line.idles + idles_in rs
 abbrev pub spared_in : ℕ → List Return → ℕ
 spared_in spared [] = 0
 spared_in spared (r ∷ rs) = spared + spared_in spared rs
-
--- a connection paused once after each receive that found nothing, except after at most `spared` of them, and at no other time
-pub record PausesServed (spared : ℕ) (l m : Line) (before after : ℕ) : Type 0 where
-  pub idles : ℕ
-  pub found : RisesBy idles l.idles m.idles
-  pub paused : ℕ
-  pub least : idles ≤ paused + spared
-  pub most : paused ≤ idles
-  pub pauses : RisesBy paused before after
 
 -- a connection was served with such pauses, and handed back; `line` is its state at the start
 pub record PausesOne (spared : ℕ) (line : Line) (o n : Hall) (came : Arrival) (end : ConnEnd) (before after : ℕ) : Type 0 where
