@@ -4,7 +4,7 @@ use denote.Enum.Bare.{sameb, same_true}
 use mathlib.Core.Bool.{beq}
 use Rattle.std.specs.Int.{bit_at}
 use Rattle.std.specs.Option.{option_eq}
-use Rattle.std.proofs.lemmas.Bool.{and_parts, cases_eq, cases_lt, eqb-true, false≢true, ne_eqb}
+use Rattle.std.proofs.lemmas.Bool.{and_parts, cases_lt, eqb-true, false≢true, ne_eqb}
 use Rattle.std.proofs.lemmas.List.Elements.{All-head, All-tail}
 use Rattle.satip_pids.specs.Rising.{IsRising, has_number}
 use Rattle.satip_pids.specs.Pids.{Pids, Every, Only, IsPidRow, IsPidSet, has_pid}
@@ -20,7 +20,7 @@ use Rattle.satip_tune.specs.contracts.signal.RollOff as roll_off
 use Rattle.satip_tune.specs.contracts.signal.System as system
 use Rattle.satip_tune.specs.contracts.signal.Modulation as modulation
 use Rattle.satip_tune.specs.contracts.signal.Fec as fec
-use Rattle.satip_rtcp.specs.Ses1.{ses1, signal_text}
+use Rattle.satip_rtcp.specs.Ses1.{ses1}
 use Rattle.satip_rtcp.specs.declared.views.StreamView.{StreamView}
 
 -- ---- sets of PIDs

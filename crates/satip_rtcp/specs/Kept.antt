@@ -7,9 +7,9 @@ use Rattle.satip_rtcp.specs.declared.views.StreamView.{StreamView}
 use Rattle.satip_rtcp.specs.declared.views.Sender.{Sender}
 
 -- the SES1 text of a view
-pub record IsTextOf (view : StreamView) (text : List ℕ) : Type 0 where
-  pub text : text ≡ ses1 view
-  pub short : length text ≤ 1430
+pub record IsTextOf (view : StreamView) (bytes : List ℕ) : Type 0 where
+  pub text : bytes ≡ ses1 view
+  pub short : length bytes ≤ 1430
 
 -- a report with this SES1 text
 abbrev pub report_with : List ℕ → Sender → List ℕ

@@ -7,6 +7,9 @@ loop-at-preserved c =
     same_more c.loop-at.at c.word.result c.word-in-loop-at.result c.args.a.now c.args.b.now c.word.ensures.bits c.word-in-loop-at.ensures.bits c.if-word.false
     c.loop-at.invariant
 
-pub returns-clause-same : goal.returns-clause-same
-returns-clause-same c = λ yes.
-    same_sets c.args.a.now c.args.b.now c.has.ensures.limits c.has-2.ensures.limits (λ pid lt. c.loop-at.invariant pid (omega (arith, lt, c.loop-at-test.false)))
+pub returns : goal.returns
+returns c = record {
+  same = λ yes.
+      same_sets c.args.a.now c.args.b.now c.has.ensures.limits c.has-2.ensures.limits (λ pid lt.
+      c.loop-at.invariant pid (omega (arith, lt, c.loop-at-test.false)));
+}

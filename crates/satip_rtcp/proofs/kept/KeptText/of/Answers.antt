@@ -1,4 +1,4 @@
-use Rattle.std.proofs.Common.{◌≡◌, ℕ, List, length, ap, sym, ◌∙◌, refl, arith}
+use Rattle.std.proofs.Common.{length, ap, sym, ◌∙◌, refl, arith}
 use Rattle.satip_rtcp.specs.Ses1.{ses1}
 use Rattle.satip_rtcp.proofs.ReportParts.{alone}
 use Rattle.satip_rtcp.proofs.kept.KeptText.of.Goals as goal

@@ -1,4 +1,4 @@
-use Rattle.std.proofs.Common.{◌≡◌, ◌≤◌, ℕ, List, length, ap, subst, sym, ◌∙◌, arith}
+use Rattle.std.proofs.Common.{◌≡◌, ◌≤◌, ℕ, List, length, ap, subst, ◌∙◌}
 use Rattle.satip_base.specs.Output.{Sends}
 use Rattle.satip_base.specs.declared.limits.TheConstants.{REPORT}
 use Rattle.satip_rtcp.specs.Ses1.{ses1}
