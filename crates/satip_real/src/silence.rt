@@ -27,9 +27,10 @@ const STREAM_WAIT_MS: u64 = 50;
 const LANE_WAIT_MS: u64 = 35;
 
 // The longest of the waits after many frames, or after a request, which may be PLAY, in milliseconds.
-const FULL_LANE_WAIT_MS: u64 = 10;
+// It is that of an HTTP client after its request too.
+const SHORT_WAIT_MS: u64 = 10;
 
-// The count of these waits. A fast stream pauses at a break of its clock, and begins slowly.
+// The count of these waits of a client with a lane. A fast stream pauses at a break of its clock, and begins slowly.
 const SHORT_WAITS: u32 = 4;
 
 // The counts of bytes sent between two waits from which frames are among them, and many.
@@ -141,7 +142,7 @@ impl Silence {
         self.calm = calm_waits(self.calm, sent);
         self.short = short_waits(self.short, asked, sent);
         if self.reads_stream() {
-            return STREAM_WAIT_MS;
+            return stream_wait_ms(asked);
         }
         let longest_ms = match (self.kind, self.listeners.carried) {
             (DoorKind::Rtsp, Carried::Frames) => lane_wait_ms(self.short, sent, self.calm),
@@ -207,6 +208,18 @@ fn calm_waits(calm: u32, sent: usize) -> u32
     calm.saturating_add(1)
 }
 
+// Returns the longest wait for a client that reads a stream over HTTP, after bytes were received or
+// not.
+fn stream_wait_ms(asked: bool) -> u64
+    ensures asked { IsTrue asked → result ≡ 10 }
+    ensures more { asked ≡ false → result ≡ 50 }
+{
+    match asked {
+        true => SHORT_WAIT_MS,
+        false => STREAM_WAIT_MS,
+    }
+}
+
 // Returns the count of short waits from now on, after `sent` bytes were sent, and bytes were received
 // or not.
 fn short_waits(short: u32, asked: bool, sent: usize) -> u32
@@ -227,7 +240,7 @@ fn lane_wait_ms(short: u32, sent: usize, calm: u32) -> u64
     ensures short { 1 ≤ short → result ≡ 10 }
 {
     if short > 0 {
-        return FULL_LANE_WAIT_MS;
+        return SHORT_WAIT_MS;
     }
     if calm > SLOW && sent > FRAMES {
         return STREAM_WAIT_MS;
