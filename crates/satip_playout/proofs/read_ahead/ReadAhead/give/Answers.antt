@@ -1,6 +1,6 @@
 use Rattle.std.proofs.Common.{ℕ, List, ◌∙◌, drop, ap, rules}
 use Rattle.satip_ts.proofs.Places.{held-drop}
-use Rattle.satip_playout.proofs.pieces.Piece.give.Goals as goal
+use Rattle.satip_playout.proofs.read_ahead.ReadAhead.give.Goals as goal
 
 -- what waits behind the bytes that were handed out
 pub returns-clause-rest : goal.returns-clause-rest
