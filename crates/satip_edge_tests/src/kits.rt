@@ -107,7 +107,7 @@ fn config_of(rt: &impl Abort, alloc: Global, row: &Row, used: Used) -> Config {
 
 // Returns what stands in place of the kits.
 fn fault_of<R: Wait + Copy + Drop>(host: HostRuntime, rt: R, config: &Config) -> Option<KitsFault> {
-    real_kits(host, rt, config, 1, Carried::Replies).err()
+    real_kits(host, rt, config, 1, Carried::Replies, b"").err()
 }
 
 fn kind_of(fault: &Option<KitsFault>) -> &'static str {
@@ -216,7 +216,7 @@ fn turn_all<R: Wait + Drop>(
 #[test]
 fn kits_go_to_other_threads(rt: HostRuntime) {
     let config = make_config(&rt, rt.alloc(), &NO_FAULT, (0, 0));
-    let Ok(jobs) = real_kits(rt, rt, &config, 1, Carried::Replies) else {
+    let Ok(jobs) = real_kits(rt, rt, &config, 1, Carried::Replies, b"") else {
         panic!(rt; "no kits");
     };
     let JobKits {

@@ -103,11 +103,7 @@ impl RealConn {
         Ok(RealConn::over(socket, None, None))
     }
 
-    fn over(
-        socket: Socket,
-        silence: Option<Silence>,
-        visits: Option<Arc<Visits>>,
-    ) -> RealConn
+    fn over(socket: Socket, silence: Option<Silence>, visits: Option<Arc<Visits>>) -> RealConn
         ensures fresh { result ≡ fresh_line }
     {
         prepare(&socket.stream);

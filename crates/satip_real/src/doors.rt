@@ -240,12 +240,16 @@ impl Doors for RealDoors {
             return Door::End;
         }
         match welcome(self.rt, &self.listeners, self.timeout_s, &self.visits) {
-            Ok(Some(Guest {
-                kind,
-                peer,
-                port,
-                conn,
-            })) => {
+            Ok(
+                Some(
+                    Guest {
+                        kind,
+                        peer,
+                        port,
+                        conn,
+                    },
+                ),
+            ) => {
                 self.begin_visit(kind, peer, port);
                 self.listeners.enter();
                 self.count = self.count.saturating_add(1);

@@ -79,11 +79,7 @@ impl Told {
 }
 
 // Returns the name of the file that a variable names; `None` if it is empty or not set.
-fn read_file(
-    env: &impl Env,
-    alloc: Global,
-    name: &'static str,
-) -> Result<Option<Text>, KitsFault> {
+fn read_file(env: &impl Env, alloc: Global, name: &'static str) -> Result<Option<Text>, KitsFault> {
     let mut buf = [0; PATH];
     match env.var(name, &mut buf) {
         Ok(0) | Err(FillError::NotPresent) => Ok(None),

@@ -28,14 +28,20 @@ impl fmt::Display for Status<'_> {
     fn fmt<W: fmt::Write>(&self, f: &mut fmt::Formatter<W>) -> fmt::Result {
         let (version, uptime) = (Quoted(self.version), Thousandths(self.uptime_ms));
         let (started, written) = (Moment(self.started), Moment(self.written));
-        write!(f, "{{\"version\":{version},\"started\":{started},\"written\":{written}")?;
+        write!(
+            f,
+            "{{\"version\":{version},\"started\":{started},\"written\":{written}"
+        )?;
         let lines = self.lines;
         write!(f, ",\"uptime_s\":{uptime},\"lines\":{{\"told\":{lines}}}")?;
         let connections = &self.connections;
         write!(f, ",\"connections\":{connections}")?;
         let (sent, bytes) = (self.datagrams.datagrams, self.datagrams.bytes);
         let refused = Causes(self.datagrams.refused);
-        write!(f, ",\"datagrams\":{{\"sent\":{sent},\"bytes\":{bytes},\"refused\":{refused}}}")?;
+        write!(
+            f,
+            ",\"datagrams\":{{\"sent\":{sent},\"bytes\":{bytes},\"refused\":{refused}}}"
+        )?;
         f.write_str(",\"destinations\":")?;
         write_all(f, self.destinations)?;
         f.write_str(",\"front_ends\":")?;
@@ -63,7 +69,10 @@ impl fmt::Display for Connections<'_> {
             watch,
             other,
         } = self.refused;
-        write!(f, ",\"refused\":{{\"descriptors\":{descriptors},\"watch\":{watch}")?;
+        write!(
+            f,
+            ",\"refused\":{{\"descriptors\":{descriptors},\"watch\":{watch}"
+        )?;
         write!(f, ",\"other\":{other}}}")?;
         let (sent, received) = (self.sent, self.received);
         write!(f, ",\"sent\":{sent},\"received\":{received},\"list\":")?;
@@ -86,9 +95,19 @@ impl fmt::Display for Connection {
             DoorKind::Rtsp => "rtsp",
             DoorKind::Http => "http",
         };
-        write!(f, "{{\"address\":\"{host}\",\"port\":{port},\"kind\":\"{kind}\"")?;
-        let (age, sent, received) = (Thousandths(self.age_ms), self.visit.sent, self.visit.received);
-        write!(f, ",\"age_s\":{age},\"sent\":{sent},\"received\":{received}}}")
+        write!(
+            f,
+            "{{\"address\":\"{host}\",\"port\":{port},\"kind\":\"{kind}\""
+        )?;
+        let (age, sent, received) = (
+            Thousandths(self.age_ms),
+            self.visit.sent,
+            self.visit.received,
+        );
+        write!(
+            f,
+            ",\"age_s\":{age},\"sent\":{sent},\"received\":{received}}}"
+        )
     }
 }
 
@@ -106,7 +125,10 @@ impl fmt::Display for Causes {
             other,
         } = self.0;
         write!(f, "{{\"unheard\":{unheard},\"no_route\":{no_route}")?;
-        write!(f, ",\"not_permitted\":{not_permitted},\"no_room\":{no_room}")?;
+        write!(
+            f,
+            ",\"not_permitted\":{not_permitted},\"no_room\":{no_room}"
+        )?;
         write!(f, ",\"other\":{other}}}")
     }
 }
@@ -120,7 +142,10 @@ impl fmt::Display for Destination {
         let (host, port) = (Ipv4Addr::from_bits(self.0.to.ip), self.0.to.port);
         write!(f, "{{\"address\":\"{host}\",\"port\":{port}")?;
         let (datagrams, bytes, refused) = (self.0.datagrams, self.0.bytes, Causes(self.0.refused));
-        write!(f, ",\"datagrams\":{datagrams},\"bytes\":{bytes},\"refused\":{refused}}}")
+        write!(
+            f,
+            ",\"datagrams\":{datagrams},\"bytes\":{bytes},\"refused\":{refused}}}"
+        )
     }
 }
 
@@ -149,7 +174,10 @@ impl fmt::Display for FrontEnd<'_> {
             None => f.write_str("null")?,
         }
         let (packets, restarts) = (self.played.bytes / 188, self.played.restarts);
-        write!(f, ",\"packets\":{packets},\"restarts\":{restarts},\"behind_ms\":")?;
+        write!(
+            f,
+            ",\"packets\":{packets},\"restarts\":{restarts},\"behind_ms\":"
+        )?;
         match self.played.late_micros {
             Some(micros) => {
                 let millis = Thousandths(micros);
