@@ -16,6 +16,7 @@ use std::env::{Env, FillError};
 use std::process::Abort;
 use std::sync::Wait;
 use std::thread;
+use std::thread::Threads;
 
 // A configuration for loopback with two workers and no front end, and what stands in place of its
 // kits.
@@ -106,7 +107,11 @@ fn config_of(rt: &impl Abort, alloc: Global, row: &Row, used: Used) -> Config {
 }
 
 // Returns what stands in place of the kits.
-fn fault_of<R: Wait + Copy + Drop>(host: HostRuntime, rt: R, config: &Config) -> Option<KitsFault> {
+fn fault_of<R: Wait + Threads + Copy + Drop>(
+    host: HostRuntime,
+    rt: R,
+    config: &Config,
+) -> Option<KitsFault> {
     real_kits(host, rt, config, 1, Carried::Replies, b"").err()
 }
 

@@ -21,6 +21,7 @@ use std::marker::Model;
 use std::rt::Files;
 use std::snapshot::Snapshot;
 use std::sync::Wait;
+use std::thread::Threads;
 use std::{fs, io};
 
 /// The file of a configuration.
@@ -156,7 +157,7 @@ impl<R: Wait + Copy + Drop + Send> Devices for RealDesk<R> {
     type Clock = RealClock;
 }
 
-impl<R: Wait + Copy + Drop + Send> Desk for RealDesk<R> {
+impl<R: Wait + Threads + Copy + Drop + Send> Desk for RealDesk<R> {
     ghost use Rattle.std.specs.Prelude.{None, option_map};
     ghost use Rattle.satip_real_desk.specs.RealViews.{real_view};
 

@@ -16,6 +16,7 @@ use satip_real::{Carried, RealDoors};
 use satip_tune::Config;
 use std::alloc::Global;
 use std::sync::Wait;
+use std::thread::Threads;
 
 /// The kits of jobs over the system. Their doors share two listeners, their outlets one table of
 /// UDP sockets.
@@ -110,7 +111,7 @@ fn pump_kits<R: Wait + Copy + Drop>(
 /// Makes the kits of a configuration, for a server whose RTSP connections carry this, of a program
 /// with this line of its name and version. It reads the variables of the environment, and goes on as
 /// `kits_told` does.
-pub fn real_kits<R: Wait + Copy + Drop>(
+pub fn real_kits<R: Wait + Threads + Copy + Drop>(
     host: HostRuntime,
     rt: R,
     config: &Config,
@@ -134,7 +135,7 @@ pub fn real_kits<R: Wait + Copy + Drop>(
 /// which recordings can't be played, and then that the server is ready. Then it begins to write the
 /// status file, if there is to be one. Each worker's doors end after `accepts` connections, or never
 /// if it is 0.
-pub fn kits_told<R: Wait + Copy + Drop>(
+pub fn kits_told<R: Wait + Threads + Copy + Drop>(
     host: HostRuntime,
     rt: R,
     config: &Config,
@@ -157,6 +158,6 @@ pub fn kits_told<R: Wait + Copy + Drop>(
         tick: tick_kit(host, rt, &shared)?,
     };
     report_ready(&host, config, &shared, &lengths);
-    shared.watch(&host, first_lines(&lengths))?;
+    shared.watch(&host, &rt, first_lines(&lengths))?;
     Ok(kits)
 }

@@ -15,6 +15,7 @@ use satip_real::{Listeners, RealDoors};
 use satip_tune::Config;
 use std::alloc::Global;
 use std::sync::{Arc, Wait};
+use std::thread::Threads;
 
 /// The listeners and a client's timeout, the UDP sockets, the names of the recordings and their
 /// settings, the start of the clocks, the count of jobs that have begun, that of arrivals, and what
@@ -108,7 +109,12 @@ impl Shared {
     }
 
     /// Starts to write the status file, if there is to be one. `first_lines` were written before.
-    pub(crate) fn watch(&self, host: &HostRuntime, first_lines: u64) -> Result<(), KitsFault> {
+    pub(crate) fn watch(
+        &self,
+        host: &HostRuntime,
+        rt: &impl Threads,
+        first_lines: u64,
+    ) -> Result<(), KitsFault> {
         let Some(status) = &self.status else {
             return Ok(());
         };
@@ -126,7 +132,7 @@ impl Shared {
             first_lines,
             faults: Throttle::new(),
         };
-        watch.start();
+        watch.start(rt);
         Ok(())
     }
 

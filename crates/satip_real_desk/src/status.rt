@@ -12,16 +12,16 @@ use std::net::Ipv4Addr;
 /// What a server did until a moment. It is shown as a JSON object in one line (RFC 8259).
 #[derive(Drop)]
 pub(crate) struct Status<'a> {
-    pub(crate) version: &'a str,
+    pub(crate) version: &'static str,
     pub(crate) started: Option<UtcTime>,
     pub(crate) written: Option<UtcTime>,
     pub(crate) uptime_ms: u64,
     pub(crate) lines: u64,
-    pub(crate) connections: Connections<'a>,
+    pub(crate) connections: Connections,
     /// The sums over all destinations.
     pub(crate) datagrams: Sent,
-    pub(crate) destinations: &'a [Destination],
-    pub(crate) front_ends: &'a [FrontEnd<'a>],
+    pub(crate) destinations: Vec<Destination>,
+    pub(crate) front_ends: Vec<FrontEnd<'a>>,
 }
 
 impl fmt::Display for Status<'_> {
@@ -43,24 +43,24 @@ impl fmt::Display for Status<'_> {
             ",\"datagrams\":{{\"sent\":{sent},\"bytes\":{bytes},\"refused\":{refused}}}"
         )?;
         f.write_str(",\"destinations\":")?;
-        write_all(f, self.destinations)?;
+        write_all(f, &self.destinations)?;
         f.write_str(",\"front_ends\":")?;
-        write_all(f, self.front_ends)?;
+        write_all(f, &self.front_ends)?;
         f.write_str("}\n")
     }
 }
 
 /// The connections of a server.
 #[derive(Drop)]
-pub(crate) struct Connections<'a> {
+pub(crate) struct Connections {
     pub(crate) taken: u64,
     pub(crate) refused: Obstacles,
     pub(crate) sent: u64,
     pub(crate) received: u64,
-    pub(crate) open: &'a [Connection],
+    pub(crate) open: Vec<Connection>,
 }
 
-impl fmt::Display for Connections<'_> {
+impl fmt::Display for Connections {
     fn fmt<W: fmt::Write>(&self, f: &mut fmt::Formatter<W>) -> fmt::Result {
         let (open, taken) = (self.open.len(), self.taken);
         write!(f, "{{\"open\":{open},\"taken\":{taken}")?;
@@ -76,7 +76,7 @@ impl fmt::Display for Connections<'_> {
         write!(f, ",\"other\":{other}}}")?;
         let (sent, received) = (self.sent, self.received);
         write!(f, ",\"sent\":{sent},\"received\":{received},\"list\":")?;
-        write_all(f, self.open)?;
+        write_all(f, &self.open)?;
         f.write_str("}")
     }
 }

@@ -9,7 +9,7 @@ use satip_playout::{Named, Progress};
 use satip_real::{Listeners, Obstacles, Visits};
 use std::alloc::{AllocError, Global};
 use std::sync::Arc;
-use std::thread::Builder;
+use std::thread::{Builder, Threads};
 use std::time::{Clock, Duration};
 use std::{fmt, fs, io, thread};
 
@@ -103,9 +103,9 @@ impl fmt::Display for WatchFault {
 impl Watch {
     /// Starts a thread that writes the file now and then once a second, until no worker is left. If
     /// the system starts no thread, that is logged, and the file isn't written.
-    pub(crate) fn start(self) {
+    pub(crate) fn start(self, rt: &impl Threads) {
         let host = self.host;
-        if Builder::new().spawn(&host, move || self.run()).is_err() {
+        if Builder::new().spawn(rt, move || self.run()).is_err() {
             report_line(
                 &host,
                 "the system starts no thread that writes the file of SATIP_STATUS, so it isn't \
@@ -170,18 +170,16 @@ impl Watch {
         for each in &sent {
             destinations.push(Destination(*each))?;
         }
-        let open = self.open_connections(alloc)?;
-        let front_ends = self.front_ends(alloc)?;
         let status = Status {
             version: version_in(self.version),
             started: self.started,
             written: UtcTime::read(&self.host),
             uptime_ms: self.uptime.elapsed_ms(),
             lines: self.lines(),
-            connections: self.connections(&open),
+            connections: self.connections(self.open_connections(alloc)?),
             datagrams,
-            destinations: &destinations,
-            front_ends: &front_ends,
+            destinations,
+            front_ends: self.front_ends(alloc)?,
         };
         format!(in alloc; "{status}")
     }
@@ -215,7 +213,7 @@ impl Watch {
     }
 
     // Returns the sums over all workers, with the connections that are open.
-    fn connections<'a>(&self, open: &'a [Connection]) -> Connections<'a> {
+    fn connections(&self, open: Vec<Connection>) -> Connections {
         let mut sums = Connections {
             taken: 0,
             refused: Obstacles::default(),
@@ -252,7 +250,7 @@ fn named_of(files: &[Named], mux: Option<u16>) -> Option<&Named> {
 }
 
 // Returns the version in a line that tells a name and a version.
-fn version_in(line: &[u8]) -> &str {
+fn version_in(line: &'static [u8]) -> &'static str {
     let line = str::from_utf8(line).unwrap_or("").trim_end();
     match line.rsplit_once(' ') {
         Some((_, version)) => version,
