@@ -17,6 +17,7 @@ use std::io::Write;
 use std::net::{TcpStream, UdpSocket};
 use std::process::Abort;
 use std::sync::{Arc, Wait};
+use std::thread::Threads;
 use std::time::Duration;
 use std::{fs, process, thread};
 
@@ -76,7 +77,7 @@ fn config_of(rt: &impl Abort, host: HostRuntime, recording: &str) -> Config {
 }
 
 // Returns the kits of a server whose status file has this name.
-fn kits_of<R: Wait + Copy + Drop + Abort>(
+fn kits_of<R: Wait + Threads + Copy + Drop + Abort>(
     host: HostRuntime,
     rt: R,
     config: &Config,
@@ -296,7 +297,7 @@ fn a_server_without_its_status_file_serves(rt: HostRuntime) {
         let (mut worker, _pump) = only_jobs(&rt, kits_of(rt, rt, &config, name));
         thread::sleep(&rt, Duration::from_millis(100));
         let (_client, (kind, peer, conn)) = answer_client(&rt, rt, &mut worker.doors, &config);
-        worker.doors.back(conn, kind, peer, ConnEnd::Failed);
+        worker.doors.back(conn, kind, peer, ConnEnd::ReadFault);
     }
     let folder = fs::metadata(&rt, names.status.as_str()).expect(&rt, "folder");
     check(&rt, "the folder stays", folder.is_dir(), true);
