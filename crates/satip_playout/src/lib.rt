@@ -14,7 +14,7 @@ mod references;
 mod store;
 
 pub use pacer::{RealPacer, pause_until};
-pub use progress::Progress;
+pub use progress::{Played, Progress};
 pub use recording::{Named, Playing, RealRecording, RecordingFault};
 pub use recording_clock::RecordingClock;
 pub use references::{breaks, reference_of, ticks_between};

@@ -72,13 +72,17 @@ impl Follower {
         self.pieces = pieces;
         if idle {
             self.anchor = None;
+            self.progress.note_late(None);
             return None;
         }
         let (Some(place), Ok(now)) = (self.progress.place(), Instant::now(rt)) else {
             self.anchor = None;
+            self.progress.note_late(None);
             return Some(PAUSE);
         };
-        match by_anchor(self.anchor, &place, now) {
+        let due = due_by(self.anchor, &place, now);
+        self.progress.note_late(due.map(|due| due.late()));
+        match due.and_then(|due| pause_until(due.at, due.now)) {
             Some(micros) => Some(micros),
             None => {
                 self.anchor = Anchor::after_pause(&place, now);
@@ -88,14 +92,32 @@ impl Follower {
     }
 }
 
-// Returns the microseconds left until a place; `None` if the two clocks have to be set again.
-fn by_anchor(anchor: Option<Anchor>, place: &Place, now: Instant) -> Option<u64> {
+// The moments at which a pause is to end and begins, in microseconds since both clocks were set.
+#[derive(Clone, Copy)]
+struct Due {
+    at: u64,
+    now: u64,
+}
+
+impl Due {
+    // Returns the microseconds by which the pause begins too late.
+    fn late(&self) -> u64 {
+        self.now.saturating_sub(self.at)
+    }
+}
+
+// Returns when a pause is to end that begins now, at this place; `None` if the two clocks have to be
+// set again.
+fn due_by(anchor: Option<Anchor>, place: &Place, now: Instant) -> Option<Due> {
     let anchor = anchor?;
     if anchor.run != place.run {
         return None;
     }
     let passed = u64::try_from(now.duration_since(anchor.at).as_micros()).ok()?;
-    pause_until(place.micros.saturating_sub(anchor.micros), passed)
+    Some(Due {
+        at: place.micros.saturating_sub(anchor.micros),
+        now: passed,
+    })
 }
 
 // The moments at which the ticker's pauses end, 20 ms apart.

@@ -130,6 +130,26 @@ impl Playing {
             progress.tell_break();
         }
     }
+
+    fn count_restart(&self) {
+        if let Some(progress) = &self.progress {
+            progress.count_restart();
+        }
+    }
+
+    // Notes that the recording of a multiplex is played from now on.
+    pub(crate) fn begin(&self, mux: u16) {
+        if let Some(progress) = &self.progress {
+            progress.begin(mux);
+        }
+    }
+
+    // Notes that no recording is played from now on.
+    pub(crate) fn end(&self) {
+        if let Some(progress) = &self.progress {
+            progress.end();
+        }
+    }
 }
 
 /// The bytes of a recording's file. If it repeats or its clock counts, its packets, one after the
@@ -229,6 +249,7 @@ impl PacketReader {
             return Ok(false);
         }
         self.file.seek(SeekFrom::Start(0))?;
+        self.playing.count_restart();
         self.any = false;
         self.ahead.clear();
         self.clock.break_off();
@@ -284,6 +305,18 @@ pub struct Named {
 }
 
 impl Named {
+    /// Returns the name.
+    pub fn name(&self) -> &Text {
+        &self.name
+    }
+
+    /// Returns the count of lines on the recording.
+    pub fn lines(&self) -> u64 {
+        self.lines.lines()
+    }
+}
+
+impl Named {
     /// Creates the name of a recording on which nothing was reported yet.
     pub fn new(alloc: Global, name: Text) -> Result<Named, AllocError> {
         let lines = Arc::new(alloc, Throttle::new())?;
@@ -308,6 +341,8 @@ impl Named {
 #[derive(Drop)]
 pub struct RealRecording {
     source: ReadSource<PacketReader>,
+    // What counts the bytes that are read, if somebody does.
+    progress: Option<Arc<Progress>>,
     faults: u64,
 }
 
@@ -334,11 +369,20 @@ impl RealRecording {
     ) -> Result<RealRecording, RecordingFault>
         ensures fresh { IfOk result (λ recording. recording ≡ fresh_feed []) }
     {
+        let progress = playing.of_recording()?.progress;
         let reader = PacketReader::open(rt, named, playing)?;
         Ok(RealRecording {
             source: ReadSource::new(reader),
+            progress,
             faults: 0,
         })
+    }
+
+    // Counts bytes that were read.
+    fn count(&self, bytes: usize) {
+        if let Some(progress) = &self.progress {
+            progress.count(bytes);
+        }
     }
 
     /// Returns whether it failed.
@@ -356,7 +400,10 @@ impl Source for RealRecording {
 
     fn take(&mut self, buf: &mut [u8]) -> Taken {
         match self.source.take(buf) {
-            Taken::Got(count) => Taken::Got(count),
+            Taken::Got(count) => {
+                self.count(count);
+                Taken::Got(count)
+            }
             Taken::End => Taken::End,
             Taken::Failed => {
                 self.faults = self.faults.saturating_add(1);

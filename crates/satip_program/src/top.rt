@@ -44,6 +44,8 @@ const HELP: &[u8] = b"usage: satip talk | replay CONFIG | serve CONFIG ACCEPTS |
     \x20   satip serve satip.toml 0\n\
     \x20   SATIP_PACE=recording plays each recording at its own rate, SATIP_REPEAT=1 again at its \
     end\n\
+    \x20   SATIP_STOP=FILE ends it softly once FILE is there, SATIP_STATUS=FILE makes it write FILE \
+    once a second\n\
     replay: the events of the script on standard input, run by the configuration in the file \
     CONFIG\n\
     \x20   satip replay examples/satip.toml < examples/session.script\n\
@@ -65,7 +67,8 @@ const HELP: &[u8] = b"usage: satip talk | replay CONFIG | serve CONFIG ACCEPTS |
     manual: man satip, or docs/satip.1; statuses: docs/PROTOCOL.md; configuration: \
     examples/satip.toml\n";
 
-const VERSION: &[u8] = b"satip 0.2.0\n";
+/// The output of `--version`.
+pub const VERSION: &[u8] = b"satip 0.2.0\n";
 
 /// The end of a run.
 pub struct Ended<K: Desk> {
