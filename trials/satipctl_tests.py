@@ -194,7 +194,8 @@ class Check(InAFolder):
     def test_a_good_one(self):
         status, out, errors = self.check(GOOD, "--no-ports")
         self.assertEqual((status, errors), (0, ""))
-        self.assertEqual(out, "satip.toml: well; front ends 1, multiplexes 2\n")
+        rates = "mux.1, a.ts: 8.00 Mbit/s\nmux.2, b.ts: 8.00 Mbit/s\n"
+        self.assertEqual(out, f"{rates}satip.toml: well; front ends 1, multiplexes 2\n")
 
     def test_toml_faults_have_line_and_column(self):
         status, _, errors = self.check(GOOD.replace("workers = 8", "workers = "))
