@@ -19,6 +19,7 @@ Limit: 600 s
 
 import json
 import os
+import re
 import shutil
 import subprocess
 import sys
@@ -74,6 +75,12 @@ class Operator:
         # The recordings of the trial have no clock, so `check` warns.
         said = self.step("check", "satipctl", "check", status=1)
         self.check("a server would start" in said, f"it says {said.splitlines()[-1]}")
+
+    def exposure(self):
+        """What systemd says of the unit: 0 is nothing exposed, 10 is all."""
+        said = self.system.says("systemd-analyze", "security", "satip")
+        told = re.search(r"exposure level for satip.service: ([\d.]+)", said)
+        self.check(told and float(told.group(1)) < 2, f"systemd-analyze security: {told and told.group(1)}")
 
     def record(self):
         """The program's own client, by RTSP and RTP."""
@@ -132,6 +139,7 @@ class Operator:
         self.step("install", "dpkg", "-i", f"/root/{old}")
         self.configure()
         self.step("start", "systemctl", "enable", "--now", "satip")
+        self.exposure()
         viewer = self.view(12, LONG)
         time.sleep(1)
         self.record()

@@ -514,11 +514,12 @@ class Watched(InAFolder):
             self.assertGreater(len(used), 4)
 
     def test_alerts(self):
+        alerts = os.path.join(TOP, "examples", "alerts.yml")
         with open(os.path.join(TOP, "trials", "lib", "alerts_test.yml"), encoding="utf-8") as file:
-            text = file.read().replace("ALERTS", os.path.join(TOP, "examples", "alerts.yml"))
-        words = ["promtool", "test", "rules", self.write(text, "alerts_test.yml")]
-        ran = subprocess.run(words, capture_output=True, text=True, check=False)
-        self.assertEqual(ran.returncode, 0, ran.stdout + ran.stderr)
+            tests = self.write(file.read().replace("ALERTS", alerts), "alerts_test.yml")
+        for words in (("check", "rules", alerts), ("test", "rules", tests)):
+            ran = subprocess.run(["promtool", *words], capture_output=True, text=True, check=False)
+            self.assertEqual(ran.returncode, 0, ran.stdout + ran.stderr)
 
 
 class Stop(InAFolder):
