@@ -59,10 +59,11 @@ more_lines st named n ts view is =
     ∙ ap (λ (v : Option StreamView). flat_map stream_lines (views_of st named (take n ts) ++ if_wanted named v)) is
     ∙ ap (flat_map stream_lines) (more_views st named n ts)
 
-pub longer : (st : State) (named : Option ℕ) (n : ℕ) (ts : List Stream) (view : Option StreamView) (total more : ℕ)
-    → view ≡ option_map (view_of st) (slice_get ts n) → total ≡ length (flat_map stream_lines (views_of st named (take n ts)))
-    → more ≡ length (flat_map stream_lines (if_wanted named view)) → total + more ≡ length (flat_map stream_lines (views_of st named (take (n + 1) ts)))
-longer st named n ts view total more is so_far one =
+pub longer : (st : State) (named : Option ℕ) (n : ℕ) (ts : List Stream) (view : Option StreamView) (head total more : ℕ)
+    → view ≡ option_map (view_of st) (slice_get ts n) → total ≡ head + length (flat_map stream_lines (views_of st named (take n ts)))
+    → more ≡ length (flat_map stream_lines (if_wanted named view))
+    → total + more ≡ head + length (flat_map stream_lines (views_of st named (take (n + 1) ts)))
+longer st named n ts view head total more is so_far one =
     let lines = flat_map stream_lines (views_of st named (take n ts)) in
     omega (arith, so_far, one, length-append lines (flat_map stream_lines (if_wanted named view)), ap length (more_lines st named n ts view is))
 

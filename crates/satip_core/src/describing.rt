@@ -37,19 +37,20 @@ pub fn write_description(
 {
     let fronts = config.fronts.as_slice().len() as u16;
     let head = head_text(config.address, fronts);
-    let size = head.bytes().len() + streams_length(parts, named);
+    let size = length_after(head.bytes().len(), parts, named);
     write_describe(cseq, config.address, size, out);
     out.write(head.bytes());
     write_streams(parts, named, out);
 }
 
-// Returns the number of bytes of the lines of the wanted streams.
-fn streams_length(parts: &Parts, named: Option<u16>) -> usize
+// Returns the number of bytes of the lines of the wanted streams, after those of the server.
+fn length_after(head: usize, parts: &Parts, named: Option<u16>) -> usize
+    requires head { head ≤ 100 }
     ensures length { (c : Configured) (st : State) → StandsFor c parts.now st
-        → result ≡ length (flat_map stream_lines (views_of st named st.streams)) }
-    ensures bound { result ≤ 102400 }
+        → result ≡ head + length (flat_map stream_lines (views_of st named st.streams)) }
+    ensures bound { result ≤ 102500 }
 {
-    let mut total = 0;
+    let mut total = head;
     for place in 0..SESSIONS {
         total += length_of(named, parts.view_at(place));
     }
@@ -61,16 +62,13 @@ fn length_of(named: Option<u16>, view: Option<StreamView>) -> usize
     ensures length { result ≡ length (flat_map stream_lines (if_wanted named view)) }
     ensures bound { result ≤ 1600 }
 {
-    match view {
-        None => 0,
-        Some(view) => {
-            if is_wanted(named, view.number) {
-                stream_text(&view).bytes().len()
-            } else {
-                0
-            }
-        }
+    let Some(view) = view else {
+        return 0;
+    };
+    if !is_wanted(named, view.number) {
+        return 0;
     }
+    stream_text(&view).bytes().len()
 }
 
 // Appends the lines of the wanted streams.

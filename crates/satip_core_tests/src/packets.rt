@@ -4,7 +4,7 @@ use crate::checks::check;
 use crate::given::{output, packet};
 use crate::requests::{change, found_one, parts_with, query};
 use satip_base::{Out, SessionId};
-use satip_fixtures::SECOND_MUX;
+use satip_fixtures::{FIRST_MUX, SECOND_MUX};
 use satip_pids::PidList;
 use satip_plain::{Closed, Pulled, Work};
 use satip_query::{PidsGiven, Query};
@@ -150,36 +150,61 @@ fn seven_packets_leave_and_reports_follow(rt: HostRuntime) {
     check_reports(&rt, &mut parts, &mut out);
 }
 
-// Ticks at a moment, and asserts how the report ends that leaves first.
-fn check_report(rt: &impl Abort, parts: &mut Parts, out: &mut Out, now: u64, end: &[u8]) {
-    ticked(parts, out, now);
-    let is_there = match out.datagram(0) {
-        Some((_, bytes)) => bytes.ends_with(end),
-        None => false,
-    };
-    check(rt, "report", (now, is_there), (now, true));
+// Ticks at two moments, and asserts how their reports end: the second has the text of the first.
+fn check_reports_end(rt: &impl Abort, parts: &mut Parts, out: &mut Out, now: u64, end: &[u8]) {
+    for moment in [now, now.saturating_add(200)] {
+        ticked(parts, out, moment);
+        let is_there = match out.datagram(0) {
+            Some((_, bytes)) => bytes.ends_with(end),
+            None => false,
+        };
+        check(rt, "report", (moment, is_there), (moment, true));
+    }
 }
 
-const ALL: &[u8] = b"\x00\x3ever=1.0;src=1;tuner=1,240,1,15,12402,v,dvbs,,,,27500,;pids=all\x00\x00";
+// The ends of reports: the length of the SES1 text, the text, and zero bytes up to a whole word.
+
+const ALL: &[u8] =
+    b"\x00\x3ever=1.0;src=1;tuner=1,240,1,15,12402,v,dvbs,,,,27500,;pids=all\x00\x00";
 
 const SIXTEEN: &[u8] =
     b"\x00\x3dver=1.0;src=1;tuner=1,240,1,15,12402,v,dvbs,,,,27500,;pids=16\x00\x00\x00";
 
-#[test]
-fn a_report_shows_the_pids_of_its_moment(rt: HostRuntime) {
-    let mut out = output(&rt, rt.alloc());
-    let mut parts = parts(&rt, rt.alloc());
-    let id = tuned(&rt, &mut parts, &mut out, false);
-    parts.play(id);
-    check_report(&rt, &mut parts, &mut out, 1200, ALL);
-    check_report(&rt, &mut parts, &mut out, 1400, ALL);
+const OTHER_TUNING: &[u8] =
+    b"\x00\x41ver=1.0;src=1;tuner=1,240,1,15,11361.75,h,dvbs2,,,,22000,;pids=16\x00\x00\x00";
+
+const NOT_LOCKED: &[u8] =
+    b"\x00\x3bver=1.0;src=1;tuner=1,0,0,0,12402,h,dvbs2,,,,22000,;pids=16\x00";
+
+// Asks for PID 16 alone.
+fn sixteen() -> Query {
     let mut list = PidList::new();
     list.push(16);
     let mut asked = Query::new();
     asked.pids = PidsGiven::List(list);
-    change(&mut parts, &mut out, 1, &asked);
-    check_report(&rt, &mut parts, &mut out, 1600, SIXTEEN);
-    check_report(&rt, &mut parts, &mut out, 1800, SIXTEEN);
+    asked
+}
+
+// Asks for this frequency, in kHz.
+fn frequency(freq: u32) -> Query {
+    let mut asked = Query::new();
+    asked.change.freq = Some(freq);
+    asked
+}
+
+#[test]
+fn a_report_shows_the_stream_of_its_moment(rt: HostRuntime) {
+    let mut out = output(&rt, rt.alloc());
+    let mut parts = parts_with(&rt, rt.alloc(), 1, &[FIRST_MUX, SECOND_MUX]);
+    let id = tuned(&rt, &mut parts, &mut out, false);
+    parts.play(id);
+    check_reports_end(&rt, &mut parts, &mut out, 1200, ALL);
+    change(&mut parts, &mut out, 1, &sixteen());
+    check_reports_end(&rt, &mut parts, &mut out, 1600, SIXTEEN);
+    change(&mut parts, &mut out, 1, &query(FIRST_MUX));
+    check_reports_end(&rt, &mut parts, &mut out, 2000, OTHER_TUNING);
+    change(&mut parts, &mut out, 1, &frequency(12402000));
+    check_reports_end(&rt, &mut parts, &mut out, 2400, NOT_LOCKED);
 }
 
 const THREE: &[PacketRow] = &[("first", 1, 0), ("second", 1, 0), ("third", 1, 0)];

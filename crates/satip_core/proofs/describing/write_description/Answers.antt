@@ -28,9 +28,9 @@ returns c = record {
       let whole = c.write_describe.ensures.wrote then (c.write.ensures.wrote then lines) in
       let address = ap (λ (x : Configuration). x.address) c.config.view_is in
       let fronts = ap length c.as_slice.ensures.value ∙ ap (λ (x : Configuration). length x.fronts) c.config.view_is in
-      let size = c.streams_length.ensures.length c.args.config.now st stands in
+      let size = c.length_after-size.ensures.length c.args.config.now st stands in
       subst (λ (text : List ℕ). Wrote c.args.out.now text c.write_streams.new.out)
-      (text_same c.args.cseq _ c.args.config.now.address _ (length c.args.config.now.fronts) _ c.bytes-2.result.now _ address fronts
+      (text_same c.args.cseq _ c.args.config.now.address _ (length c.args.config.now.fronts) c.length_after-size.result c.bytes-2.result.now _ address fronts
       (c.bytes-2.ensures.bytes ∙ c.head_text-head.ensures.lines)
       (omega (arith, size, ap length c.bytes.ensures.bytes, ap length c.bytes-2.ensures.bytes)))
       whole;

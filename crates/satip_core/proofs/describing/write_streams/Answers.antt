@@ -1,7 +1,6 @@
-use Rattle.std.proofs.Common.{List, arith, ap, subst}
+use Rattle.std.proofs.Common.{List, arith, subst}
 use Rattle.std.specs.List.{flat_map}
 use Rattle.satip_base.specs.Output.{Wrote}
-use Rattle.satip_base.proofs.Writing.{nothing_wrote}
 use Rattle.satip_sdp.specs.Sdp.{stream_lines}
 use Rattle.satip_plain.specs.State.{Stream}
 use Rattle.satip_core.specs.Describing.{views_of}
@@ -17,9 +16,11 @@ loop-place-preserved c = record {
   room = omega (arith, c.loop-place.invariant.room, c.write_stream.ensures.room);
 }
 
-pub returns-clause-wrote : goal.returns-clause-wrote
-returns-clause-wrote c = λ cfg st stands.
-    subst (λ (ts : List Stream). Wrote c.args.out.now (flat_map stream_lines (views_of st c.args.named ts)) c.loop-place.out)
-    (all_views c.loop-place.place st.streams
-    (omega (arith, c.loop-place.invariant.known cfg st stands (omega (arith, c.loop-place-test.false)), c.loop-place-test.false)))
-    (c.loop-place.invariant.wrote cfg st stands)
+pub returns : goal.returns
+returns c = record {
+  wrote = λ cfg st stands.
+      subst (λ (ts : List Stream). Wrote c.args.out.now (flat_map stream_lines (views_of st c.args.named ts)) c.loop-place.out)
+      (all_views c.loop-place.place st.streams
+      (omega (arith, c.loop-place.invariant.known cfg st stands (omega (arith, c.loop-place-test.false)), c.loop-place-test.false)))
+      (c.loop-place.invariant.wrote cfg st stands);
+}
