@@ -23,7 +23,8 @@ returns-in-Closed g c =
     record {
       talked = (
         h.pieces,
-        c.loop.invariant.0.1, c.loop.invariant.0.1,
+        c.loop.invariant.0.1,
+        c.loop.invariant.0.1,
         paused_all _ _ _ _ c.loop.invariant.0.2,
         talked_to_closing _ _ _ _ _ _ (c.hear_piece.ensures.input ∙ c.in-Got.ensures.receives.after) h.hears,
       );
@@ -42,7 +43,8 @@ returns-in-Lost g c =
     record {
       talked = (
         h.pieces,
-        c.loop.invariant.0.1, c.loop.invariant.0.1,
+        c.loop.invariant.0.1,
+        c.loop.invariant.0.1,
         paused_all _ _ _ _ c.loop.invariant.0.2,
         talked_to_write_fault _ _ _ _ _ _ (c.hear_piece.ensures.input ∙ c.in-Got.ensures.receives.after) h.hears,
       );
@@ -112,7 +114,8 @@ pub returns-in-End : goal.returns-in-End
 returns-in-End g c = record {
   talked = (
     c.loop.invariant.0.0,
-    c.loop.invariant.0.1, c.loop.invariant.0.1,
+    c.loop.invariant.0.1,
+    c.loop.invariant.0.1,
     paused_all _ _ _ _ c.loop.invariant.0.2,
     talked_to_end _ _ _ _ _ _ _ _ c.loop.invariant.0.4 c.in-End.ensures.receives,
   );
@@ -122,7 +125,8 @@ pub returns-in-Failed : goal.returns-in-Failed
 returns-in-Failed g c = record {
   talked = (
     c.loop.invariant.0.0,
-    c.loop.invariant.0.1, c.loop.invariant.0.1,
+    c.loop.invariant.0.1,
+    c.loop.invariant.0.1,
     paused_all _ _ _ _ c.loop.invariant.0.2,
     talked_to_read_fault _ _ _ _ _ _ _ _ c.loop.invariant.0.4 c.in-Failed.ensures.receives,
   );
