@@ -1,6 +1,6 @@
 use Rattle.satip_pump.proofs.PauseLemmas.{ticks_pause, ticks_paced_more, ticks_paced_none}
 use Rattle.satip_pump.proofs.TickLemmas.{ticks_none, ticks_more, ends_run}
-use Rattle.satip_pump.proofs.ticker.run_ticker.Goals as goal
+use Rattle.satip_pump.proofs.ticker.submit_ticks.Goals as goal
 
 pub loop-init : goal.loop-init
 loop-init g c = (tt, tt, g.met.S.Service.same_self _, ticks_none _ _ _ _, ticks_paced_none _ _, c.requires.free)

@@ -2,7 +2,7 @@ use Rattle.std.proofs.Common.{◌≡◌, None, refl, arith, rules, lit<}
 use Rattle.satip_plain.specs.declared.answers.Work.TheVariants.{Nothing}
 use Rattle.satip_pump.proofs.PauseLemmas.{paced_idle, paced_none, paced_owed, works_pace}
 use Rattle.satip_pump.proofs.RunLemmas.{asked_after, asked_first}
-use Rattle.satip_pump.proofs.pump.run_pump.Goals as goal
+use Rattle.satip_pump.proofs.pump.play_recordings.Goals as goal
 
 pub loop-init : goal.loop-init
 loop-init g c =
