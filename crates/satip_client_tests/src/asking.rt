@@ -104,6 +104,19 @@ const ROWS: &[Row] = &[
     ),
     (&[(b"", 9999)], &[], &[], RecordEnd::Closed),
     (&[(b"", 10000)], &[], &[], RecordEnd::Silent),
+    // The idle receives of one wait don't count for the next.
+    (
+        &[(b"", 9999), (GRANTED, 1), (b"", 9999), (ACCEPTED, 1)],
+        &[],
+        &[],
+        RecordEnd::Done,
+    ),
+    (
+        &[(b"", 9999), (GRANTED, 1), (b"", 10000)],
+        &[],
+        &[],
+        RecordEnd::Silent,
+    ),
 ];
 
 // The texts, each so often.
@@ -153,23 +166,24 @@ fn just_begun(alloc: Global) -> Result<Begun, Fail> {
 }
 
 impl Begun {
-    // Whether it goes on behind a moment of the clock.
-    fn goes_on(&mut self, pulse: &mut Pulse) -> bool {
-        pulse.cseq < u32::MAX
-            && keep_alive(
-                &mut self.wire,
-                &mut self.clock,
-                &self.lease,
-                pulse,
-                &mut self.page,
-            )
-            .is_ok()
+    // Keeps the session alive at the next moment of the clock. Returns how it ended, if it did.
+    fn beat(&mut self, pulse: &mut Pulse) -> Result<(), RecordEnd> {
+        if pulse.cseq == u32::MAX {
+            return Err(RecordEnd::Silent);
+        }
+        keep_alive(
+            &mut self.wire,
+            &mut self.clock,
+            &self.lease,
+            pulse,
+            &mut self.page,
+        )
     }
 
-    // Whether what was sent behind a place is this.
-    fn has_sent(&self, before: usize, text: &[u8]) -> bool {
+    // Returns the bytes that were sent after a place.
+    fn sent_after(&self, before: usize) -> &[u8] {
         let sent = self.wire.sent();
-        sent.split_at(before.min(sent.len())).1 == text
+        sent.split_at(before.min(sent.len())).1
     }
 }
 
@@ -179,14 +193,14 @@ fn half_of_the_timeout_brings_options(rt: HostRuntime) -> Result<(), Fail> {
     let mut pulse = Pulse { mark: 5, cseq: 3 };
     let before = begun.wire.sent().len();
     let options = b"OPTIONS rtsp://10.0.0.1/ RTSP/1.0\r\nCSeq: 3\r\nSession: 1a\r\n\r\n";
-    for (mark, cseq, text) in [
-        (5, 3, b"".as_slice()),
-        (1005, 4, options),
-        (1005, 4, options),
+    for (moment, mark, cseq, text) in [
+        (1004, 5, 3, b"".as_slice()),
+        (1005, 1005, 4, options),
+        (1006, 1005, 4, options),
     ] {
-        assert!(rt; begun.goes_on(&mut pulse));
-        assert_eq!(rt; pulse, Pulse { mark, cseq });
-        assert!(rt; begun.has_sent(before, text));
+        assert_eq!(rt; begun.beat(&mut pulse), Ok(()), "at {moment}");
+        assert_eq!(rt; pulse, Pulse { mark, cseq }, "at {moment}");
+        assert_eq!(rt; begun.sent_after(before), text, "at {moment}");
     }
     Ok(())
 }

@@ -2,7 +2,7 @@
 use satip_base::Want;
 use satip_client::RecordEnd;
 use satip_fixtures::recordings::{ACCEPTED, ADDRESS, GRANTED, HEAD, OPENED, QUERY, datagram};
-use satip_fixtures::texts::is_joined;
+use satip_fixtures::texts::joined;
 use satip_memory::{MemoryClock, MemoryConn, MemoryInlet, MemorySink};
 use satip_recorder::{Recorded, Wish, record_by};
 use std::alloc::Global;
@@ -286,27 +286,30 @@ fn devices_of(alloc: Global, row: &Row, owned: &[Vec<u8>]) -> Result<Devices, Fa
     Ok(memory_devices(alloc, row.replies, &datagrams, row.moments, row.troubles)?)
 }
 
-// Whether bytes are the beginnings of the packets of these datagrams, where they are looked at.
-fn are_packets(bytes: &[u8], parts: Option<&[(u16, usize)]>) -> bool {
-    let Some(parts) = parts else {
-        return true;
-    };
-    let mut rest = bytes;
+// Returns the first packets of these datagrams, in order.
+fn packets_of(alloc: Global, parts: &[(u16, usize)]) -> Result<Vec<u8>, Fail> {
+    let mut all = Vec::new(alloc);
     for (number, count) in parts {
         let whole = datagram(*number);
-        let part = whole[HEAD..].split_at((*count).min(564)).0;
-        if !rest.starts_with(part) {
-            return false;
-        }
-        rest = rest.split_at(part.len().min(rest.len())).1;
+        all.extend_from_slice(whole[HEAD..].split_at((*count).min(564)).0)?;
     }
-    rest.is_empty()
+    Ok(all)
 }
 
-// Whether what was sent is as a row says, and what was written.
-fn sent_and_written(played: &Played, row: &Row) -> [bool; 2] {
-    let sent = row.sent.is_none_or(|texts| is_joined(played.sent(), texts));
-    [sent, are_packets(played.written(), row.written)]
+// Returns the bytes that must have been sent, or `sent` if the row doesn't say it.
+fn sent_of(alloc: Global, row: &Row, sent: &[u8]) -> Result<Vec<u8>, Fail> {
+    match row.sent {
+        Some(texts) => joined(alloc, texts),
+        None => Ok(Vec::from_slice(alloc, sent)?),
+    }
+}
+
+// Returns the bytes that must have been written, or `written` if the row doesn't say it.
+fn written_of(alloc: Global, row: &Row, written: &[u8]) -> Result<Vec<u8>, Fail> {
+    match row.written {
+        Some(parts) => packets_of(alloc, parts),
+        None => Ok(Vec::from_slice(alloc, written)?),
+    }
 }
 
 #[test]
@@ -315,7 +318,10 @@ fn recordings_come_to_what_their_rows_say(rt: HostRuntime) -> Result<(), Fail> {
         let played = play_row(rt.alloc(), row)?;
         let name = row.name;
         assert_eq!(rt; played.end(), row.end, "{name}");
-        assert_eq!(rt; sent_and_written(&played, row), [true, true], "{name}");
+        let sent = sent_of(rt.alloc(), row, played.sent())?;
+        assert_eq!(rt; played.sent(), sent.as_slice(), "{name}");
+        let written = written_of(rt.alloc(), row, played.written())?;
+        assert_eq!(rt; played.written(), written.as_slice(), "{name}");
         assert_eq!(rt; played.told(), row.told.unwrap_or(played.told()), "{name}");
     }
     Ok(())

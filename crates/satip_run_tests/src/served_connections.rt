@@ -1,10 +1,15 @@
 //! Connections that are served by a new server, a row each.
+ghost use Rattle.std.specs.Prelude.{◌≡◌, false};
 
 use crate::checks::check;
 use crate::given::given;
+use satip_desk::WorkerKit;
+use satip_fixtures::CLIENT;
 use satip_fixtures::texts::{CLOSING, OPTIONS, OPTIONS_REPLY, SETUP, is_joined, repeated};
-use satip_memory::MemoryConn;
-use satip_solo::connections::{GET, HEAD, SETUP_REPLY, Seen, serve_alone};
+use satip_memory::{MemoryConn, MemoryDoors, MemoryOutlet, MemoryPacer};
+use satip_solo::connections::{GET, HEAD, KEY, SETUP_REPLY, Seen, serve_alone};
+use satip_solo::setting::{letters, solo};
+use satip_worker::{Room, WorkerEnd, run_worker};
 use satip_world::{ConnEnd, DoorKind};
 use std::alloc::Global;
 use std::process::Abort;
@@ -195,5 +200,50 @@ fn connections_come_to_what_their_rows_say(rt: HostRuntime) {
         let conn = conn_of(&rt, rt.alloc(), row);
         let seen = given(&rt, serve_alone(&rt, rt.alloc(), row.kind, conn));
         check_seen(&rt, &seen, row);
+    }
+}
+
+// Doors by which one connection with OPTIONS comes, and which then fail.
+fn failing_doors(rt: &impl Abort, alloc: Global) -> MemoryDoors {
+    let conn = MemoryConn::make(alloc, &[OPTIONS], &[], &[], 0).expect(rt, "out of memory");
+    let mut doors = MemoryDoors::make(alloc, 0, &[], &[2]).expect(rt, "out of memory");
+    doors
+        .add(DoorKind::Rtsp, CLIENT, conn)
+        .expect(rt, "out of memory");
+    doors
+}
+
+// A worker with those doors.
+fn failing_worker(
+    rt: &impl Abort,
+    alloc: Global,
+) -> WorkerKit<MemoryDoors, MemoryOutlet, MemoryPacer>
+    ensures free { result.outlet.held ≡ false }
+{
+    let Ok(outlet) = MemoryOutlet::make(alloc, &[]) else {
+        panic!(rt; "out of memory");
+    };
+    WorkerKit {
+        doors: failing_doors(rt, alloc),
+        outlet,
+        pacer: MemoryPacer::new(),
+        key: KEY,
+    }
+}
+
+#[test]
+fn a_worker_replies_before_its_doors_fail(rt: HostRuntime) {
+    let alloc = rt.alloc();
+    let mut solo = given(&rt, solo(alloc, None));
+    let mut room = Room::make(alloc).expect(&rt, "out of memory");
+    let mut kit = failing_worker(&rt, alloc);
+    let end = run_worker(&rt, &mut solo, &mut kit, 0, &mut room);
+    check(&rt, "end", &end, &WorkerEnd::DoorsFault);
+    let kinds = given(&rt, letters(alloc, &solo));
+    check(&rt, "kinds", &kinds.as_slice(), &b"R".as_slice());
+    check(&rt, "connections", &kit.doors.returned().len(), &1);
+    for handed in kit.doors.returned() {
+        check(&rt, "end", &handed.end, &ConnEnd::Done);
+        check(&rt, "sent", &handed.conn.sent(), &OPTIONS_REPLY);
     }
 }

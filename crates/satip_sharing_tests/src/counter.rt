@@ -1,9 +1,9 @@
 //! A counter behind a cell.
 ghost use Rattle.std.proofs.Common.{rules};
 ghost use Rattle.std.specs.Prelude.{◌≡◌, ◌+◌, ◌<◌, true, [], ◌∷◌, length, if◌then◌else◌, Some, None};
-ghost use Rattle.satip_sharing_tests.specs.Counted.{IsCounted, IsSumOf};
+ghost use Rattle.satip_sharing_tests.specs.Counted.{IsCounted, IsSumOf, KeepsOne};
 ghost use Rattle.satip_turn.specs.Steps.{longer};
-ghost use Rattle.satip_turn.specs.Shown.{IsOf};
+ghost use Rattle.satip_turn.specs.Shown.{IsOf, Keeps};
 
 use crate::checks::check;
 use satip_base::Served;
@@ -105,7 +105,7 @@ pub(crate) fn add<R: Wait + Abort>(
     requires { IsOf pass.old cell.now }
     ensures of { IsOf pass.new cell.now }
     ensures own { length pass.new.own ≡ length pass.old.own + 1 }
-    ensures kept { pass.new.kept ≡ pass.old.kept }
+    ensures keeps { Keeps pass.old pass.new }
 {
     let Ok(sum) = cell.call(rt, pass, &number, &mut ()) else {
         panic!(rt; "the history is full");
@@ -123,7 +123,7 @@ fn call_by_two<R: Wait + Abort>(
     requires { IsOf first.old cell.now }
     ensures of { IsOf first.new cell.now }
     ensures own { length first.new.own ≡ length first.old.own + 2 }
-    ensures kept { length first.new.kept ≡ length first.old.kept + 1 }
+    ensures kept { KeepsOne first.old first.new }
 {
     let mut second = cell.split(first);
     let five = add(rt, cell, first, 5);

@@ -6,6 +6,8 @@ mod faults;
 #[cfg(test)]
 mod kits;
 #[cfg(test)]
+mod noting;
+#[cfg(test)]
 mod refusing;
 #[cfg(test)]
 mod runs;

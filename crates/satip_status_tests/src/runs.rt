@@ -74,9 +74,9 @@ pub(crate) struct Row {
 // The desk of a run.
 type RunDesk = RefusingDesk<MemoryDesk>;
 
-// The words of a run, its input and its outputs.
+/// The words of a run, its input and its outputs.
 #[derive(Drop)]
-struct Streams {
+pub(crate) struct Streams {
     words: Vec<Text>,
     input: MemorySource,
     output: MemorySink,
@@ -149,7 +149,8 @@ fn make_words(rt: &impl Abort, alloc: Global, words: &[&str]) -> Vec<Text> {
     texts
 }
 
-fn make_streams(rt: &impl Abort, alloc: Global, words: &[&str]) -> Streams {
+/// Creates the streams of a run with these words, without input.
+pub(crate) fn make_streams(rt: &impl Abort, alloc: Global, words: &[&str]) -> Streams {
     Streams {
         words: make_words(rt, alloc, words),
         input: MemorySource::make(alloc, b"", &[], &[]).expect(rt, "out of memory"),
@@ -158,8 +159,8 @@ fn make_streams(rt: &impl Abort, alloc: Global, words: &[&str]) -> Streams {
     }
 }
 
-// Runs the program over these streams.
-fn run_over<R: Threads + Wait + Sync, K: Desk>(
+/// Runs the program over these streams.
+pub(crate) fn run_over<R: Threads + Wait + Sync, K: Desk>(
     rt: &R,
     alloc: Global,
     streams: &mut Streams,
