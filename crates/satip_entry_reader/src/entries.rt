@@ -85,12 +85,10 @@ fn read_reply(count: u32, bytes: &mut Reading<'_>, out: &mut Out) -> bool
     ensures read { MatchBool result (TakesReply count bytes.old bytes.new out.old out.new)
         (length bytes.old < count) }
 {
-    'reply: for place in 0..count {
-        let Some(byte) = bytes.read_u8() else {
-            return false;
-        };
-        out.write(&[byte]);
-    }
+    let Some(reply) = bytes.read_bytes(count as usize) else {
+        return false;
+    };
+    out.write(reply);
     true
 }
 
@@ -101,13 +99,11 @@ fn read_payload(to: Address, count: u32, bytes: &mut Reading<'_>, out: &mut Out)
     ensures read { MatchBool result (TakesPayload to count bytes.old bytes.new out.old out.new)
         (length bytes.old < count) }
 {
+    let Some(payload) = bytes.read_bytes(count as usize) else {
+        return false;
+    };
     out.begin(to);
-    'payload: for place in 0..count {
-        let Some(byte) = bytes.read_u8() else {
-            return false;
-        };
-        out.extend(&[byte]);
-    }
+    out.extend(payload);
     true
 }
 

@@ -6,7 +6,6 @@ ghost use Rattle.satip_entry_writer.specs.Records.{event_text};
 ghost use Rattle.satip_entry_reader.specs.Reading.{behind};
 ghost use Rattle.satip_entry_reader.specs.ReadingEvents.{ask_read, asked_read, close_read, ended_read, event_read, got_read, packet_read, pull_read, taken_read, tick_read};
 
-use crate::lists::fill;
 use crate::reading::Reading;
 use crate::requests::{read_http_request, read_request};
 use satip_base::Peer;
@@ -165,14 +164,16 @@ fn read_close(bytes: &mut Reading<'_>) -> Option<Event>
     Some(Event::Close { session })
 }
 
-#[tactic(auto, unfolding(crate::specs::ReadingEvents::packet_read, crate::specs::ReadingLists::read_bytes))]
+#[tactic(auto, unfolding(crate::specs::ReadingEvents::packet_read))]
 fn read_packet(bytes: &mut Reading<'_>) -> Option<Packet>
     ensures read { behind result bytes.new ≡ packet_read bytes.old }
     ensures front { IfSome result (λ packet. bytes.old ≡ packet ++ bytes.new) }
 {
-    let mut places = [0; 188];
-    if !fill(&mut places, bytes) {
+    let Some(taken) = bytes.read_bytes(188) else {
         return None;
+    };
+    match taken.first_chunk::<188>() {
+        Some(packet) => Packet::of(packet),
+        None => unreachable!(),
     }
-    Packet::of(&places)
 }
