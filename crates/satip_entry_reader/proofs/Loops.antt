@@ -106,3 +106,9 @@ pub packet_in_front : (found : Option (List ℕ)) (o places rest : List ℕ) →
 unfolding packet_read
 packet_in_front found o places rest whole size none some =
     rw (bytes_in_front 188 o places rest whole size) (by_sync found places rest (nat_eq (slice_index places 0) 71) refl none some)
+
+-- the packet that those bytes are
+pub packet_behind : (found : Option (List ℕ)) (o places rest : List ℕ) → o ≡ places ++ rest → IfSome found (λ packet. packet ≡ places)
+    → IfSome found (λ packet. o ≡ packet ++ rest)
+packet_behind None o places rest whole some = tt
+packet_behind (Some packet) o places rest whole some = whole ∙ ap (λ (p : List ℕ). p ++ rest) (sym some)

@@ -1,5 +1,5 @@
 -- Bytes and datagrams that are read into an output one after another.
-use Rattle.std.proofs.Common.{◌≡◌, ℕ, zero, suc, ◌+◌, ◌-◌, ◌≤◌, ◌<◌, List, [], ◌∷◌, ◌++◌, append-nil, append_assoc, length, length-append, flat_map, take, drop, add-one, Bool, true, false, nat_le, Option, Some, None, arith, refl, sym, ◌∙◌, ap, subst}
+use Rattle.std.proofs.Common.{◌≡◌, ℕ, zero, suc, ◌+◌, ◌-◌, ◌≤◌, ◌<◌, List, [], ◌∷◌, ◌++◌, append-nil, append_assoc, length, length-append, flat_map, take, drop, add-one, Bool, true, false, nat_le, if◌then◌else◌, Option, Some, None, arith, refl, sym, ◌∙◌, ap, subst}
 use Rattle.std.proofs.lemmas.Grind.{flat_map-append}
 use Rattle.std.proofs.lemmas.List.{length-drop, length-take-le, take-append-drop}
 use Rattle.satip_base.specs.declared.network.Address.{Address}
@@ -12,6 +12,7 @@ use Rattle.satip_plain.specs.declared.events.Event.{Event}
 use Rattle.satip_plain.specs.declared.answers.Answer.{Answer}
 use Rattle.satip_base.specs.declared.limits.TheConstants.{REPLY_BYTES, EVENT_BYTES, EVENT_DATAGRAMS}
 use Rattle.std.specs.Bool.{MatchBool}
+use Rattle.std.proofs.lemmas.Option.{same_Some}
 use Rattle.std.proofs.lemmas.Bool.Decides.{nat_tests}
 use Rattle.satip_entry_writer.specs.Records.{datagram_text}
 use Rattle.satip_entry_reader.specs.ReadingLists.{read_bytes}
@@ -21,9 +22,12 @@ use Rattle.satip_entry_reader.specs.Taking.{TakesDatagram, TakesDatagrams, Takes
 use Rattle.satip_entry_reader.proofs.Loops.{behind_none, behind_one, too_few, whole}
 use Rattle.satip_entry_reader.proofs.ListsAgain.{within}
 
-taken_by : (b : Bool) (count : ℕ) (o t n : List ℕ) → nat_le count (length o) ≡ b → Some (t, n) ≡ (if b then Some (take count o, drop count o) else None)
+taken_by : (b : Bool) (count : ℕ) (o t n : List ℕ) → nat_le count (length o) ≡ b
+    → ◌≡◌ {A = Option (List ℕ × List ℕ)} (Some (t, n)) (if b then Some (take count o, drop count o) else None)
     → (count ≤ length o) × (t ≡ take count o) × (n ≡ drop count o)
-taken_by true count o t n le e = (grind (arith, nat_tests, le), cc e, cc e)
+taken_by true count o t n le e =
+    let pair : (t, n) ≡ (take count o, drop count o) = same_Some _ _ e in
+    (grind (arith, nat_tests, le), ap (λ (x : List ℕ × List ℕ). x.0) pair, ap (λ (x : List ℕ × List ℕ). x.1) pair)
 taken_by false count o t n le e = absurd (cc e)
 
 -- bytes that are read are the first
@@ -31,7 +35,8 @@ taken_is : (count : ℕ) (o t n : List ℕ) → Some (t, n) ≡ read_bytes count
 unfolding read_bytes
 taken_is count o t n e = taken_by (nat_le count (length o)) count o t n refl e
 
-none_by : (b : Bool) (count : ℕ) (o : List ℕ) → nat_le count (length o) ≡ b → None ≡ (if b then Some (take count o, drop count o) else None)
+none_by : (b : Bool) (count : ℕ) (o : List ℕ) → nat_le count (length o) ≡ b
+    → ◌≡◌ {A = Option (List ℕ × List ℕ)} None (if b then Some (take count o, drop count o) else None)
     → length o < count
 none_by true count o le e = absurd (cc e)
 none_by false count o le e = grind (arith, nat_tests, le)

@@ -1,6 +1,6 @@
 //! Whole entries, read from the bytes of a record.
 
-ghost use Rattle.std.specs.Prelude.{◌≡◌, ◌≢◌, ◌≤◌, ◌<◌, [], ◌++◌, length, IfSome, IsNone, None};
+ghost use Rattle.std.specs.Prelude.{◌≡◌, ◌≢◌, ◌≤◌, ◌<◌, [], ◌++◌, length, IfSome, IsNone, None, Some};
 ghost use Rattle.std.specs.Bool.{MatchBool};
 ghost use Rattle.satip_base.specs.Output.{empty};
 ghost use Rattle.satip_entry_writer.specs.Records.{record_text};
@@ -19,6 +19,7 @@ use satip_plain::{Answer, Event};
 pub fn read_record(bytes: &[u8], out: &mut Out) -> Option<(Event, Answer)>
     ensures right { IfSome result (λ r. bytes.now ≡ record_text r.0 r.1 out.new.reply
         out.new.datagrams) }
+    ensures read { IfSome result (λ r. entry_read bytes.now ≡ entry_behind (Some r) out.new []) }
     ensures none { IsNone result → IsNoRecord bytes.now }
     ensures empty { IsNone result → out.new ≡ empty }
 {
