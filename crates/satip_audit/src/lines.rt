@@ -1,9 +1,10 @@
 //! Reads the lines of journals. A line is read leniently, written again, and compared. So leading
 //! zeros, upper case and CR are wrong.
 
-ghost use Rattle.std.specs.Prelude.{◌≡◌, ◌<◌, ◌^◌, ◌++◌, ◌∷◌, ℕ, List, length, decimal, false, Some, IfSome, IsNone, IsSomeAnd};
+ghost use Rattle.std.specs.Prelude.{◌≡◌, ◌<◌, ◌≤◌, ◌^◌, ◌++◌, ◌∷◌, ℕ, List, length, take, decimal, false, Some, IfSome, IsNone, IsSomeAnd};
 ghost use Rattle.std.specs.List.{list_any};
 ghost use Rattle.satip_entry_writer.specs.Lines.{start_line};
+ghost use Rattle.satip_entry_writer.specs.Records.{record_text};
 ghost use Rattle.satip_audit.specs.Cuts.{is_byte, words_line};
 ghost use Rattle.satip_audit.specs.Journals.{IsPlaced, Placed as PlacedEntry, placed, placed_line};
 
@@ -13,7 +14,8 @@ use satip_entry_reader::read_record;
 use satip_entry_writer::{LineRoom, write_entry, write_start};
 use satip_plain::{Answer, Event};
 
-/// The content of an entry's line, without the reply and the datagrams.
+/// The content of an entry's line, without the reply and the datagrams, and the length of its
+/// record.
 #[derive(Drop)]
 pub struct Found {
     /// The entry's place in the history.
@@ -24,6 +26,8 @@ pub struct Found {
     pub event: Event,
     /// The answer.
     pub answer: Answer,
+    /// The length of the record in bytes.
+    pub len: usize,
 }
 
 // Reads a number with a space after it. Returns the rest of the text with it.
@@ -93,7 +97,7 @@ pub fn read_start(line: &[u8], room: &mut LineRoom) -> Option<u64>
 }
 
 /// Returns the content of an entry's line, and writes its reply and its datagrams into `out`.
-/// Returns None if the line is no entry's. The record is decoded into `record_room`.
+/// Returns None if the line is no entry's. The record is decoded into the front of `record_room`.
 pub fn read_entry(
     line: &[u8],
     out: &mut Out,
@@ -106,6 +110,10 @@ pub fn read_entry(
     ensures within { IfSome result (λ f. IsPlaced
         (placed f.place f.caller f.event f.answer out.new)) }
     ensures none { IsNone result → (p : PlacedEntry) → IsPlaced p → line.now ≡ placed_line p → ⊥ }
+    ensures front { IfSome result (λ f. take f.len record_room.new
+        ≡ record_text f.event f.answer out.new.reply out.new.datagrams) }
+    ensures len { IfSome result (λ f. f.len ≤ length record_room.new) }
+    ensures fits { IfSome result (λ f. f.len ≤ length line.now) }
 {
     let Some((place, caller, digits)) = entry_words(line) else {
         return None;
@@ -126,5 +134,6 @@ pub fn read_entry(
         caller,
         event,
         answer,
+        len: count,
     })
 }
