@@ -1,7 +1,9 @@
 -- The index of the lines before a rest, and of one line more.
-use Rattle.std.proofs.Common.{◌≡◌, ℕ, zero, suc, ◌+◌, ◌<◌, ◌≤◌, List, [], ◌∷◌, ◌++◌, length, length-append, append-nil, map, take, drop, refl, sym, ap, ◌∙◌, subst, arith, inl}
+use Rattle.std.proofs.Common.{◌≡◌, ℕ, zero, suc, ◌+◌, ◌-◌, ◌<◌, ◌≤◌, List, [], ◌∷◌, ◌++◌, length, length-append, append-nil, map, take, drop, refl, sym, ap, ◌∙◌, subst, arith, inl}
 use Rattle.std.specs.List.{All}
-use Rattle.std.proofs.lemmas.List.{drop_at}
+use Rattle.std.proofs.lemmas.List.{drop_at, drop-drop, length-drop, length-take-le, take_at, take-append-drop}
+use Rattle.std.proofs.lemmas.Slice.{drop-put_mid, take-put_mid}
+use borrow.Rule.Slice.PartMut.{put_mid}
 use Rattle.std.proofs.lemmas.List.Elements.{All-nil, All-push, All-weaker}
 use Rattle.satip_base.proofs.Elements.{Has-append_left, Has-append_right}
 use Rattle.satip_audit.specs.declared.index.Spot.{Spot}
@@ -139,6 +141,46 @@ module _ (text rest line after behind records : List ℕ) (number : ℕ) (s t : 
   pub indexing_more : (said : Said) → Says line after said → AddsLine said at s spots t more → Indexing text behind (records ++ after) (number + 1) t more
   indexing_more (StartSaid now) says adds = start_more now says adds
   indexing_more (EntrySaid place len) says adds = entry_more place len says adds
+
+-- ---- a line that is written over
+
+-- the line that is read and written over
+pub line_is : (at count : ℕ) (now line behind : List ℕ) → drop at now ≡ line ++ behind → count ≡ length line → take (at + count - at) (drop at now) ≡ line
+line_is at count now line behind cut size =
+    ap (λ (l : List ℕ). take (at + count - at) l) cut ∙ take_at line behind (at + count - at) (omega (arith, size))
+
+pub rest_some : (at : ℕ) (now rest : List ℕ) → at < length now → rest ≡ drop at now → rest ≡ [] → ⊥
+rest_some at now rest inside back none = omega (arith, inside, length-drop at now, ap (λ (l : List ℕ). length l) back, ap (λ (l : List ℕ). length l) none)
+
+pub line_fits : (at : ℕ) (now line behind : List ℕ) → at ≤ length now → drop at now ≡ line ++ behind → at + length line ≤ length now
+line_fits at now line behind inside cut =
+    omega (arith, inside, length-drop at now, ap (λ (l : List ℕ). length l) cut, length-append line behind)
+
+pub length_same : (at count : ℕ) (now after : List ℕ) → at + count ≤ length now → length after ≡ count → length (put_mid at count now after) ≡ length now
+length_same at count now after fits size =
+    let whole = take-append-drop (at + count) (put_mid at count now after) in
+    let front = take-put_mid at count now after (at + count) (omega (arith, size)) (omega (arith, fits)) in
+    let back = drop-put_mid at count now after (at + count) (omega arith) (omega (arith, fits)) size in
+    let before = length-take-le at now (omega (arith, fits)) in
+    omega (arith, fits, size, before, length-append (take (at + count) (put_mid at count now after)) (drop (at + count) (put_mid at count now after)),
+    ap (λ (l : List ℕ). length l) whole, ap (λ (l : List ℕ). length l) front, ap (λ (l : List ℕ). length l) back, length-append (take at now) after,
+    length-drop (at + count) now)
+
+pub indexing_next : (text now line after behind : List ℕ) (number : ℕ) (s t : Starts) (spots more : List Spot) (at : ℕ)
+    → Indexing text (drop at now) (take at now) number s spots → at ≤ length now → drop at now ≡ line ++ behind → length behind < length (drop at now)
+    → length after ≡ length line → (said : Said) → Says line after said → AddsLine said at s spots t more
+    → Indexing text (drop (at + length line) (put_mid at (at + length line - at) now after))
+      (take (at + length line) (put_mid at (at + length line - at) now after)) (number + 1) t more
+indexing_next text now line after behind number s t spots more at i inside cut shorter size said says adds =
+    let k : ℕ = at + length line - at in
+    let fits = line_fits at now line behind inside cut in
+    let back = drop-put_mid at k now after (at + length line) (omega arith) inside (omega (arith, size)) ∙ sym (drop-drop (length line) at now)
+    ∙ ap (λ (l : List ℕ). drop (length line) l) cut ∙ drop_at line behind (length line) refl in
+    let front = take-put_mid at k now after (at + length line) (omega (arith, size)) inside in
+    let next = indexing_more text (drop at now) line after behind (take at now) number s t spots more at i cut shorter
+    (sym (length-take-le at now inside)) said says adds in
+    subst (λ (r : List ℕ). Indexing text r (take (at + length line) (put_mid at k now after)) (number + 1) t more) (sym back)
+    (subst (λ (r : List ℕ). Indexing text behind r (number + 1) t more) (sym front) next)
 
 pub indexed : (text rest records : List ℕ) (number : ℕ) (s : Starts) (spots : List Spot) → Indexing text rest records number s spots → rest ≡ []
     → IsIndex text records s spots

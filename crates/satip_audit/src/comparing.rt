@@ -42,7 +42,8 @@ fn same_datagrams(a: &Out, b: &Out) -> bool
 }
 
 fn same_datagram(a: Option<(Address, &[u8])>, b: Option<(Address, &[u8])>) -> bool
-    ensures same { MatchBool result (shown a ≡ shown b) (shown a ≢ shown b) }
+    ensures same { MatchBool result (shown a.entry ≡ shown b.entry)
+        (shown a.entry ≢ shown b.entry) }
 {
     match a {
         None => match b {

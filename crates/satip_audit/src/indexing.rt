@@ -10,6 +10,7 @@ use crate::journals::{Index, JournalFault, Starts};
 use crate::lines::{read_entry, read_start};
 use satip_base::{Out, Want};
 use satip_entry_writer::LineRoom;
+use satip_plain::Event;
 use std::alloc::Global;
 
 const RECORD: usize = 400000;
@@ -57,6 +58,7 @@ fn index_lines(
         starts: Starts::Missing,
         spots: Vec::new(alloc),
     };
+    let mut event = Event::Stop;
     let mut at = 0;
     let mut number: u64 = 1;
     'lines: while at < text.len() {
@@ -64,7 +66,8 @@ fn index_lines(
             return Err(JournalFault::WrongLine(number));
         };
         let end = at + line.len();
-        let Some(said) = read_line(&mut text[at..end], out, room, record_room) else {
+        let line = &mut text[at..end];
+        let Some(said) = read_line(line, &mut event, out, room, record_room) else {
             return Err(JournalFault::WrongLine(number));
         };
         let Ok(()) = add_line(&mut index, said, at as u32) else {
@@ -76,10 +79,11 @@ fn index_lines(
     Ok(index)
 }
 
-// Returns the content of a line, or None if it is wrong. Writes an entry's record over the front of
-// the line.
+// Returns the content of a line, or None if it is wrong. Writes an entry's event over `event`, and
+// its record over the front of the line.
 fn read_line(
     line: &mut [u8],
+    event: &mut Event,
     out: &mut Out,
     room: &mut LineRoom,
     record_room: &mut [u8],
@@ -92,7 +96,7 @@ fn read_line(
     if let Some(now) = read_start(line, room) {
         return Some(Said::Start(now));
     }
-    let Some(found) = read_entry(line, out, room, record_room) else {
+    let Some(found) = read_entry(line, event, out, room, record_room) else {
         return None;
     };
     let len = found.len;

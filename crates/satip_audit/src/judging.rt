@@ -23,6 +23,7 @@ use satip_base::{Out, Want};
 use satip_config::Config;
 use satip_core::Server;
 use satip_entry_reader::read_record;
+use satip_plain::Event;
 use std::alloc::Global;
 
 /// Returns the verdict on journals by a configuration. Returns the number of the first wrong line,
@@ -99,9 +100,10 @@ fn replay_records(
     ensures finds { (h : List Item) → Stands server.old (opening server.old.setting)
         → AreLed records.now h spots.now → Finds server.old.setting h result }
 {
+    let mut event = Event::Stop;
     'places: for place in 0..spots.len() {
         let bytes = record_at(records, spots[place]);
-        if !does_so(server, bytes, said, out) {
+        if !does_so(server, bytes, &mut event, said, out) {
             return Some(place as u64);
         }
     }
@@ -118,17 +120,23 @@ fn record_at(records: &[u8], spot: Spot) -> &[u8]
     bytes
 }
 
-// Executes the event of a record. Tells whether the server's answer, reply and datagrams are those
+// Reads a record, and executes its event. Tells whether the server's answer, reply and datagrams are those
 // of the record.
-fn does_so(server: &mut Server, bytes: &[u8], said: &mut Out, out: &mut Out) -> bool
+fn does_so(
+    server: &mut Server,
+    bytes: &[u8],
+    event: &mut Event,
+    said: &mut Out,
+    out: &mut Out,
+) -> bool
     ensures setting { server.new.setting ≡ server.old.setting }
     ensures does { (p : Placed) → IsEntry p.entry → bytes.now ≡ entry_text p.entry
         → MatchBool result (DoesSo server.old p server.new) (DoesOther server.old p) }
 {
-    let Some((event, answer)) = read_record(bytes, said) else {
+    let Some(answer) = read_record(bytes, event, said) else {
         return false;
     };
-    let done = server.event(&event, out);
+    let done = server.event(event, out);
     if !same_answer(done, answer) {
         return false;
     }
