@@ -162,15 +162,24 @@ length_same at count now after fits size =
     let front = take-put_mid at count now after (at + count) (omega (arith, size)) (omega (arith, fits)) in
     let back = drop-put_mid at count now after (at + count) (omega arith) (omega (arith, fits)) size in
     let before = length-take-le at now (omega (arith, fits)) in
-    omega (arith, fits, size, before, length-append (take (at + count) (put_mid at count now after)) (drop (at + count) (put_mid at count now after)),
-    ap (λ (l : List ℕ). length l) whole, ap (λ (l : List ℕ). length l) front, ap (λ (l : List ℕ). length l) back, length-append (take at now) after,
-    length-drop (at + count) now)
+    omega (
+      arith,
+      fits,
+      size,
+      before,
+      length-append (take (at + count) (put_mid at count now after)) (drop (at + count) (put_mid at count now after)),
+      ap (λ (l : List ℕ). length l) whole,
+      ap (λ (l : List ℕ). length l) front,
+      ap (λ (l : List ℕ). length l) back,
+      length-append (take at now) after,
+      length-drop (at + count) now,
+    )
 
 pub indexing_next : (text now line after behind : List ℕ) (number : ℕ) (s t : Starts) (spots more : List Spot) (at : ℕ)
     → Indexing text (drop at now) (take at now) number s spots → at ≤ length now → drop at now ≡ line ++ behind → length behind < length (drop at now)
     → length after ≡ length line → (said : Said) → Says line after said → AddsLine said at s spots t more
     → Indexing text (drop (at + length line) (put_mid at (at + length line - at) now after))
-      (take (at + length line) (put_mid at (at + length line - at) now after)) (number + 1) t more
+    (take (at + length line) (put_mid at (at + length line - at) now after)) (number + 1) t more
 indexing_next text now line after behind number s t spots more at i inside cut shorter size said says adds =
     let k : ℕ = at + length line - at in
     let fits = line_fits at now line behind inside cut in

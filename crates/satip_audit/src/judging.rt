@@ -80,13 +80,7 @@ fn first_differing(
         return Err(Want);
     };
     let mut server = Server::make(alloc, config, start)?;
-    Ok(replay_records(
-        &mut server,
-        records,
-        spots,
-        &mut said,
-        &mut out,
-    ))
+    Ok(replay_records(&mut server, records, spots, &mut said, &mut out))
 }
 
 fn replay_records(

@@ -37,8 +37,7 @@ lines-preserved c =
     let same = line_is at (length line) c.lines.text line behind cut refl in
     let size : length after ≡ length line = c.in-Some-read_line.ensures.size ∙ ap (λ (l : List ℕ). length l) same in
     let fits = line_fits at c.lines.text line behind inside cut in
-    let long = length_same at (at + length line - at) c.lines.text after (omega (arith, fits)) (omega (arith, size)) in
-    (
+    let long = length_same at (at + length line - at) c.lines.text after (omega (arith, fits)) (omega (arith, size)) in (
       indexing_next c.args.text.now c.lines.text line after behind c.lines.number _ _ _ _ at c.lines.invariant.0 inside cut shorter size
           c.in-Some-read_line.said (subst (λ (l : List ℕ). Says l after c.in-Some-read_line.said) same c.in-Some-read_line.ensures.says) c.in-Ok.ensures.added,
       omega (arith, fits, long),
