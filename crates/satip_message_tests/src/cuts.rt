@@ -34,15 +34,15 @@ impl Draws {
     }
 }
 
-const METHODS: &[&[u8]] = &[b"OPTIONS", b"SETUP", b"PLAY", b"G", b"A-B"];
+const METHODS: &[&[u8]] = &[b"PLAY", b"G", b"A-B"];
 
-const TARGETS: &[&[u8]] = &[b"*", b"/", b"/stream=1", b"rtsp://h/?src=1"];
+const TARGETS: &[&[u8]] = &[b"*", b"/", b"a:b?c"];
 
-const VERSIONS: &[&[u8]] = &[b"RTSP/1.0", b"HTTP/1.1", b"V"];
+const VERSIONS: &[&[u8]] = &[b"RTSP/1.0", b"V"];
 
-const NUMBERS: &[&[u8]] = &[b"1", b"23", b"4294967295"];
+const NUMBERS: &[&[u8]] = &[b"1", b"23"];
 
-const HEADERS: &[&[u8]] = &[b"", b"X:", b"X: \t a b ", b"session:1;timeout=3"];
+const HEADERS: &[&[u8]] = &[b"", b"", b"X:", b"X: \ta b "];
 
 const BLANKS: &[&[u8]] = &[b"", b" ", b"\t "];
 
