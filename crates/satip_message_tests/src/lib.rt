@@ -8,10 +8,6 @@ mod checks;
 #[cfg(test)]
 mod client_requests;
 #[cfg(test)]
-mod cuts;
-#[cfg(test)]
-mod drips;
-#[cfg(test)]
 mod frame;
 #[cfg(test)]
 mod framed;

@@ -1,4 +1,5 @@
-//! Tests lanes, callers of a shared tunnel, and its connections and workers over memory.
+//! Tests lanes, callers of a shared tunnel, its connections and workers over memory, and what long
+//! messages cost.
 #![tactic(auto)]
 
 #[cfg(test)]
@@ -7,6 +8,8 @@ mod callers;
 mod checks;
 #[cfg(test)]
 mod connections;
+#[cfg(test)]
+mod drips;
 #[cfg(test)]
 mod lanes;
 #[cfg(test)]

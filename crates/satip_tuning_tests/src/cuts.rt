@@ -229,10 +229,10 @@ fn check_cuts(rt: &impl Abort, framer: &mut Framer, made: &Made) {
             let (middle, back) = behind.split_at(second);
             let told = told_in(framer, &[front, middle, back], made);
             let cut = (first, second);
-            check(rt, "cuts, and what is told", (cut, told), (cut, wanted));
+            check(rt, "cuts, and what is told", &(cut, told), &(cut, wanted));
         }
     }
-    check(rt, "byte by byte", told_by_bytes(framer, made), wanted);
+    check(rt, "byte by byte", &told_by_bytes(framer, made), &wanted);
 }
 
 #[test]
