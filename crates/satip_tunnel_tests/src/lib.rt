@@ -1,5 +1,4 @@
-//! Tests lanes, callers of a shared tunnel, its connections and workers over memory, and what long
-//! messages cost.
+//! Tests lanes, callers of a tunnel, its connections and workers, and what long messages cost.
 #![tactic(auto)]
 
 #[cfg(test)]
