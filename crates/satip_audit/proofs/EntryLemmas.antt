@@ -1,8 +1,10 @@
 -- Lines of entries: what is written is read again.
-use Rattle.std.proofs.Common.{◌≡◌, ℕ, zero, suc, ◌<◌, ◌≤◌, ◌^◌, List, [], ◌∷◌, length, take, Some, None, refl, sym, ap, ◌∙◌, arith}
+use Rattle.std.proofs.Common.{◌≡◌, ℕ, zero, suc, ◌<◌, ◌≤◌, ◌^◌, List, [], ◌∷◌, length, length-append, take, Some, None, refl, sym, ap, ◌∙◌, arith}
 use Rattle.std.proofs.lemmas.List.Elements.{All-head, All-tail}
 use Rattle.std.proofs.lemmas.Option.{same_Some}
-use Rattle.hex.specs.Hex.{IsBytes, encode_lower}
+use Rattle.std.proofs.lemmas.List.{length-take-le}
+use Rattle.hex.specs.Hex.{IsBytes, encode_lower, lower_digits}
+use Rattle.hex.proofs.HexLemmas.{length-encode_with}
 use Rattle.satip_base.specs.Output.{IsWithinRoom}
 use Rattle.satip_plain.specs.Values.{AreBytes}
 use Rattle.satip_entry_writer.specs.Lines.{entry_line}
@@ -42,6 +44,17 @@ same_line q p place caller text =
     as_words q ∙ ap (λ (n : ℕ). words_line n q.caller (encode_lower (entry_text q.entry))) place
     ∙ ap (λ (n : ℕ). words_line p.place n (encode_lower (entry_text q.entry))) caller
     ∙ ap (λ (t : List ℕ). words_line p.place p.caller (encode_lower t)) text ∙ sym (as_words p)
+
+-- a line is longer than its record
+line_long : (q : Placed) → length (entry_text q.entry) ≤ length (placed_line q)
+line_long q =
+    omega (arith, ap (λ (l : List ℕ). length l) (as_words q), length-append {A = ℕ}, length-encode_with lower_digits (entry_text q.entry))
+
+pub fits_line : (room line : List ℕ) (q : Placed) (most count : ℕ) → take most room ≡ entry_text q.entry → line ≡ placed_line q → most ≡ count
+    → count ≤ length room → count ≤ length line
+fits_line room line q most count right is same within =
+    let taken = length-take-le most room (omega (arith, same, within)) in
+    omega (arith, same, taken, ap (λ (l : List ℕ). length l) right, line_long q, ap (λ (l : List ℕ). length l) is)
 
 -- the bytes that were decoded
 pub front_is : (room bytes : List ℕ) (count most : ℕ) → most ≡ count → Some count ≡ Some (length bytes) → take (length bytes) room ≡ bytes

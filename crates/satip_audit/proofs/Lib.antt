@@ -11,3 +11,4 @@ pub mod VerdictLemmas
 pub mod OneReading
 pub mod LegalLemmas
 pub mod EndLemmas
+pub mod SameLemmas

@@ -1,5 +1,5 @@
 -- Lines of entries: the same line is of the same entry.
-use Rattle.std.proofs.Common.{◌≡◌, ◌≢◌, ℕ, zero, suc, ◌/◌, ◌%◌, ◌<◌, ◌≤◌, Bool, true, false, List, [], ◌∷◌, ◌++◌, map, codes, decimal, None, Some, refl, sym, ap, ◌∙◌, subst, arith}
+use Rattle.std.proofs.Common.{◌≡◌, ℕ, zero, suc, ◌/◌, ◌%◌, ◌<◌, ◌≤◌, Bool, true, false, List, [], ◌∷◌, ◌++◌, append-nil, map, codes, decimal, None, Some, refl, sym, ap, ◌∙◌, subst, arith}
 use Rattle.std.specs.Prelude.{slice_index}
 use Rattle.std.specs.Bool.{MatchBool}
 use Rattle.std.specs.List.{list_any}
@@ -8,24 +8,25 @@ use Rattle.std.proofs.lemmas.List.{append_cancel_left, append_cancel_right, get_
 use Rattle.std.proofs.lemmas.Option.{same_Some}
 use Rattle.hex.specs.Hex.{IsBytes, encode_lower, encode_with, hex_digit_value, lower_digits}
 use Rattle.hex.proofs.HexLemmas.{IsDigits-lower_digits}
-use Rattle.satip_base.specs.Output.{Datagram, Output}
+use Rattle.satip_base.specs.Output.{Output}
 use Rattle.satip_plain.specs.declared.answers.Answer.{Answer}
 use Rattle.satip_plain.specs.declared.events.Event.{Event}
 use Rattle.satip_plain.specs.Types.{Config}
 use Rattle.satip_plain.specs.State.{State}
 use Rattle.satip_plain.specs.Steps.{step}
-use Rattle.satip_plain.specs.Histories.{datagram}
+use Rattle.satip_plain.specs.Histories.{Fits, datagram}
 use Rattle.satip_core.specs.Standing.{StandsFor}
 use Rattle.satip_entry_reader.proofs.ValuesAgain.{none_begins}
 use Rattle.satip_entry_reader.specs.ReadingEntries.{Entry, IsEntry, entry_text, entry_read}
 use Rattle.satip_entry_reader.proofs.EntriesAgain.{entry_again}
 use Rattle.satip_core.specs.Held.{Held}
-use Rattle.satip_core.specs.Serving.{Steps}
+use Rattle.satip_core.specs.Serving.{Stands, Steps}
 use Rattle.satip_audit.specs.Cuts.{is_byte, words_line}
 use Rattle.satip_audit.specs.Journals.{IsPlaced, Placed, placed_line}
 use Rattle.satip_audit.proofs.EntryLemmas.{are_bytes, as_words}
 use Rattle.satip_audit.proofs.LineLemmas.{no_space}
-use Rattle.satip_audit.specs.Replaying.{DoesOther, DoesSo}
+use Rattle.satip_audit.specs.Replaying.{DoesOther, DoesSo, SaysSame}
+use Rattle.satip_audit.specs.Verdicts.{item}
 
 -- ---- texts that are cut at the same byte
 
@@ -90,24 +91,7 @@ same_entry p q is_p is_q e =
     same_text p.entry q.entry is_p.entry is_q.entry
     (same_digits (entry_text p.entry) (entry_text q.entry) (are_bytes (entry_text q.entry) is_q.bytes) digits)
 
-abbrev pub in_place : Placed → Entry → Placed
-in_place p e = record { place = p.place; caller = p.caller; entry = e }
-
--- another record in the place of an entry's, on the same line
-same_record : (q : Placed) (e : Entry) → IsPlaced q → IsEntry e → placed_line (in_place q e) ≡ placed_line q → e ≡ q.entry
-same_record q e is_q is_e same =
-    let de = encode_lower (entry_text e) in
-    let dq = encode_lower (entry_text q.entry) in
-    let words : words_line q.place q.caller de ≡ words_line q.place q.caller dq = sym (as_words (in_place q e)) ∙ same ∙ as_words q in
-    let one = append_cancel_left (codes "entry ") _ _ words in
-    let two = append_cancel_left (decimal q.place) _ _ one in
-    let three = append_cancel_left (codes " ") _ _ two in
-    let four = append_cancel_left (decimal q.caller) _ _ three in
-    let five = append_cancel_left (codes " ") _ _ four in
-    let digits : de ≡ dq = append_cancel_right de dq (codes "\n") five in
-    same_text e q.entry is_e is_q.entry (same_digits (entry_text e) (entry_text q.entry) (are_bytes (entry_text q.entry) is_q.bytes) digits)
-
--- ---- what the server did, against a line
+-- ---- what the server did, against a record
 
 -- an entry is what its event does
 record DoesEntry (c : Config) (new : Held) (st : State) (e : Entry) : Type 0 where
@@ -116,50 +100,48 @@ record DoesEntry (c : Config) (new : Held) (st : State) (e : Entry) : Type 0 whe
   reply : e.reply ≡ (step c st e.event).reply
   datagrams : e.datagrams ≡ map datagram (step c st e.event).sent
 
-match_by : (b : Bool) (A B X Y : Type 0) → (A → X) → (B → Y) → MatchBool b A B → MatchBool b X Y
-match_by true A B X Y f g h = f h
-match_by false A B X Y f g h = g h
-
 abbrev pub made : Event → Answer → Output → Entry
 made event answer out = record { event = event; answer = answer; reply = out.reply; datagrams = out.datagrams }
 
-made_same : (e : Entry) (answer : Answer) (reply : List ℕ) (datagrams : List Datagram) → answer ≡ e.answer → reply ≡ e.reply → datagrams ≡ e.datagrams
-    → record { event = e.event; answer = answer; reply = reply; datagrams = datagrams } ≡ e
-made_same e answer reply datagrams a r d =
-    let one : Answer → Entry = λ x. record { event = e.event; answer = x; reply = reply; datagrams = datagrams } in
-    let two : List ℕ → Entry = λ x. record { event = e.event; answer = e.answer; reply = x; datagrams = datagrams } in
-    let three : List Datagram → Entry = λ x. record { event = e.event; answer = e.answer; reply = e.reply; datagrams = x } in
-    ap one a ∙ ap two r ∙ ap three d
+-- the entry that is read is the one whose record the bytes are
+read_is : (e q : Entry) (bytes : List ℕ) → IsEntry q → bytes ≡ entry_text q → entry_read bytes ≡ Some (e, []) → e ≡ q
+read_is e q bytes is same read =
+    let whole : entry_read bytes ≡ Some (q, []) = ap entry_read (same ∙ sym (append-nil (entry_text q))) ∙ entry_again q [] is in
+    ap (λ (x : Entry × List ℕ). x.0) (same_Some (e, []) (q, []) (sym read ∙ whole))
 
-module _ (old new : Held) (q : Placed) (answer : Answer) (out : Output) (w line : List ℕ) (is_q : IsPlaced q) (line_is : line ≡ placed_line q)
-    (is_made : IsEntry (made q.entry.event answer out)) (steps : Steps old q.entry.event new answer out)
-    (w_is : w ≡ placed_line (in_place q (made q.entry.event answer out))) (p : Placed) (is_p : IsPlaced p) (line_as : line ≡ placed_line p) where
+module _ (old new : Held) (event : Event) (answer : Answer) (said : Output) (done : Answer) (out : Output) (bytes : List ℕ)
+    (steps : Steps old event new done out) (read : entry_read bytes ≡ Some (made event answer said, [])) (p : Placed) (is_p : IsEntry p.entry)
+    (same : bytes ≡ entry_text p.entry) where
   abbrev e : Entry
-  e = made q.entry.event answer out
+  e = made event answer said
 
-  both : q.entry ≡ p.entry
-  both = same_entry q p is_q is_p (sym line_is ∙ line_as)
+  both : e ≡ p.entry
+  both = read_is e p.entry bytes is_p same read
 
-  so : w ≡ line → DoesSo old p new
-  so same = λ st stands.
-      let same_made : e ≡ p.entry = same_record q e is_q is_made (sym w_is ∙ same ∙ line_is) ∙ both in
+  so : done ≡ answer → SaysSame out said → DoesSo old p new
+  so answers outputs = λ st stands.
       let did = steps st stands in
-      let here : DoesEntry old.setting.config new st e = record { stands = did.stands; answer = did.answer; reply = did.reply; datagrams = did.datagrams } in
-      let there : DoesEntry old.setting.config new st p.entry = subst (λ (x : Entry). DoesEntry old.setting.config new st x) same_made here in
+      let here : DoesEntry old.setting.config new st e = record {
+        stands = did.stands;
+        answer = sym answers ∙ did.answer;
+        reply = sym outputs.reply ∙ did.reply;
+        datagrams = sym outputs.datagrams ∙ did.datagrams;
+      } in
+      let there : DoesEntry old.setting.config new st p.entry = subst (λ (x : Entry). DoesEntry old.setting.config new st x) both here in
       record { stands = there.stands; fits = record { answer = there.answer; reply = there.reply; datagrams = there.datagrams } }
 
-  other : w ≢ line → DoesOther old p
-  other differ = λ st stands fits.
+  theirs : (st : State) → Stands old st → Fits (step old.setting.config st p.entry.event) (item p) → (done ≡ answer) × SaysSame out said
+  theirs st stands fits =
       let c = old.setting.config in
       let did = steps st stands in
       let F : Entry → Type 0 = λ x. (x.answer ≡ (step c st x.event).answer) × (x.reply ≡ (step c st x.event).reply)
       × (x.datagrams ≡ map datagram (step c st x.event).sent) in
-      let theirs : F q.entry = subst F (sym both) (fits.answer, fits.reply, fits.datagrams) in
-      let answers : answer ≡ q.entry.answer = did.answer ∙ sym theirs.0 in
-      let replies : out.reply ≡ q.entry.reply = did.reply ∙ sym theirs.1 in
-      let sent : out.datagrams ≡ q.entry.datagrams = did.datagrams ∙ sym theirs.2 in
-      let same : e ≡ q.entry = made_same q.entry answer out.reply out.datagrams answers replies sent in
-      differ (w_is ∙ ap (λ (x : Entry). placed_line (in_place q x)) same ∙ sym line_is)
+      let mine : F e = subst F (sym both) (fits.answer, fits.reply, fits.datagrams) in
+      (did.answer ∙ sym mine.0, record { reply = did.reply ∙ sym mine.1; datagrams = did.datagrams ∙ sym mine.2 })
 
-  pub does : (same : Bool) → MatchBool same (w ≡ line) (w ≢ line) → MatchBool same (DoesSo old p new) (DoesOther old p)
-  does same h = match_by same (w ≡ line) (w ≢ line) (DoesSo old p new) (DoesOther old p) so other h
+  pub other_answer : (done ≡ answer → ⊥) → DoesOther old p
+  other_answer differ = λ st stands fits. differ (theirs st stands fits).0
+
+  pub does : (b : Bool) → done ≡ answer → MatchBool b (SaysSame out said) (SaysSame out said → ⊥) → MatchBool b (DoesSo old p new) (DoesOther old p)
+  does true answers outputs = so answers outputs
+  does false answers differ = λ st stands fits. differ (theirs st stands fits).1

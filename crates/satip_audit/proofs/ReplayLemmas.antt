@@ -11,7 +11,8 @@ use Rattle.satip_core.specs.Standing.{StandsFor}
 use Rattle.satip_core.specs.Held.{Held}
 use Rattle.satip_core.specs.Serving.{Stands}
 use Rattle.satip_audit.specs.declared.index.Spot.{Spot}
-use Rattle.satip_audit.specs.Journals.{IsPlaced, Placed, placed_line}
+use Rattle.satip_entry_reader.specs.ReadingEntries.{IsEntry, entry_text}
+use Rattle.satip_audit.specs.Journals.{Placed}
 use Rattle.satip_audit.specs.Verdicts.{DiffersAt, item}
 use Rattle.satip_audit.specs.Replaying.{AreLed, DoesOther, DoesSo, Finds}
 
@@ -35,23 +36,23 @@ pub record Ran (h : List Item) (place : ℕ) (s : Held) : Type 0 where
   pub legal : LegalFrom s.setting.config (opening s.setting) (take place h)
 
 -- so it is for each history to which spots lead
-pub record Runs (text : List ℕ) (spots : List Spot) (old : Held) (place : ℕ) (s : Held) : Type 0 where
+pub record Runs (records : List ℕ) (spots : List Spot) (old : Held) (place : ℕ) (s : Held) : Type 0 where
   pub setting : s.setting ≡ old.setting
-  pub ran : (h : List Item) → Stands old (opening old.setting) → AreLed text h spots → Ran h place s
+  pub ran : (h : List Item) → Stands old (opening old.setting) → AreLed records h spots → Ran h place s
 
-pub runs_from : (text : List ℕ) (spots : List Spot) (old : Held) → Runs text spots old 0 old
-runs_from text spots old = record { setting = refl; ran = λ h stands led. record { stands = stands; legal = tt } }
+pub runs_from : (records : List ℕ) (spots : List Spot) (old : Held) → Runs records spots old 0 old
+runs_from records spots old = record { setting = refl; ran = λ h stands led. record { stands = stands; legal = tt } }
 
-module _ (text line : List ℕ) (spots : List Spot) (d : Spot) (old s t : Held) (place : ℕ) (inside : place < length spots)
-    (line_is : line ≡ take (get_or spots place d).len (drop (get_or spots place d).at text)) (runs : Runs text spots old place s) where
-  ran_more : (same : t.setting ≡ s.setting) → ((p : Placed) → IsPlaced p → line ≡ placed_line p → DoesSo s p t)
-      → (h : List Item) → Stands old (opening old.setting) → AreLed text h spots → Ran h (place + 1) t
+module _ (records bytes : List ℕ) (spots : List Spot) (d : Spot) (old s t : Held) (place : ℕ) (inside : place < length spots)
+    (bytes_are : bytes ≡ take (get_or spots place d).len (drop (get_or spots place d).at records)) (runs : Runs records spots old place s) where
+  ran_more : (same : t.setting ≡ s.setting) → ((p : Placed) → IsEntry p.entry → bytes ≡ entry_text p.entry → DoesSo s p t)
+      → (h : List Item) → Stands old (opening old.setting) → AreLed records h spots → Ran h (place + 1) t
   ran_more same does h stands led =
       let before = runs.ran h stands led in
       let l = led.leads place d inside in
       let x = item l.entry in
       let c = s.setting.config in
-      let did = does l.entry l.within (line_is ∙ l.line) (after s.setting (take place h)) before.stands in
+      let did = does l.entry l.within (bytes_are ∙ l.record_is) (after s.setting (take place h)) before.stands in
       let next : suc place ≡ place + 1 = omega arith in
       let grows : take place h ++ x ∷ [] ≡ take (place + 1) h = sym (take_suc h place x l.stands) ∙ ap (λ (n : ℕ). take n h) next in
       let state : StandsFor c t.kept (after s.setting (take place h ++ x ∷ [])) =
@@ -63,11 +64,11 @@ module _ (text line : List ℕ) (spots : List Spot) (d : Spot) (old s t : Held) 
       let all : Q t.setting = subst Q (sym same) both in
       record { stands = all.0; legal = all.1 }
 
-  pub runs_more : t.setting ≡ s.setting → ((p : Placed) → IsPlaced p → line ≡ placed_line p → DoesSo s p t) → Runs text spots old (place + 1) t
+  pub runs_more : t.setting ≡ s.setting → ((p : Placed) → IsEntry p.entry → bytes ≡ entry_text p.entry → DoesSo s p t) → Runs records spots old (place + 1) t
   runs_more same does = record { setting = same ∙ runs.setting; ran = ran_more same does }
 
-  pub runs_other : ((p : Placed) → IsPlaced p → line ≡ placed_line p → DoesOther s p)
-      → (h : List Item) → Stands old (opening old.setting) → AreLed text h spots → Finds old.setting h (Some place)
+  pub runs_other : ((p : Placed) → IsEntry p.entry → bytes ≡ entry_text p.entry → DoesOther s p)
+      → (h : List Item) → Stands old (opening old.setting) → AreLed records h spots → Finds old.setting h (Some place)
   runs_other does h stands led =
       let before = runs.ran h stands led in
       let l = led.leads place d inside in
@@ -75,13 +76,13 @@ module _ (text line : List ℕ) (spots : List Spot) (d : Spot) (old s t : Held) 
         before = before.legal;
         here = item l.entry;
         stands = l.stands;
-        differs = λ fits. does l.entry l.within (line_is ∙ l.line) (after s.setting (take place h)) before.stands fits;
+        differs = λ fits. does l.entry l.within (bytes_are ∙ l.record_is) (after s.setting (take place h)) before.stands fits;
       } in
       subst (λ (z : Setting). DiffersAt z h place) runs.setting found
 
-pub runs_end : (text : List ℕ) (spots : List Spot) (old s : Held) (place : ℕ) → length spots ≤ place → Runs text spots old place s
-    → (h : List Item) → Stands old (opening old.setting) → AreLed text h spots → Finds old.setting h None
-runs_end text spots old s place far runs h stands led =
+pub runs_end : (records : List ℕ) (spots : List Spot) (old s : Held) (place : ℕ) → length spots ≤ place → Runs records spots old place s
+    → (h : List Item) → Stands old (opening old.setting) → AreLed records h spots → Finds old.setting h None
+runs_end records spots old s place far runs h stands led =
     let before = runs.ran h stands led in
     let long = led.long in
     let whole : take place h ≡ h = take_all place h (omega (arith, long, far)) in
@@ -89,9 +90,9 @@ runs_end text spots old s place far runs h stands led =
     subst (λ (z : Setting). LegalFrom z.config (opening z) h) runs.setting (subst P whole before.legal)
 
 -- a server that was made in this setting
-pub finds_as : (text : List ℕ) (spots : List Spot) (c : Setting) (s : Held) (result : Option ℕ) → s.setting ≡ c → Stands s (opening c)
-    → ((h : List Item) → Stands s (opening s.setting) → AreLed text h spots → Finds s.setting h result)
-    → (h : List Item) → AreLed text h spots → Finds c h result
-finds_as text spots c s result same stands finds h led =
+pub finds_as : (records : List ℕ) (spots : List Spot) (c : Setting) (s : Held) (result : Option ℕ) → s.setting ≡ c → Stands s (opening c)
+    → ((h : List Item) → Stands s (opening s.setting) → AreLed records h spots → Finds s.setting h result)
+    → (h : List Item) → AreLed records h spots → Finds c h result
+finds_as records spots c s result same stands finds h led =
     let here : Stands s (opening s.setting) = subst (λ (z : Setting). Stands s (opening z)) (sym same) stands in
     subst (λ (z : Setting). Finds z h result) same (finds h here led)

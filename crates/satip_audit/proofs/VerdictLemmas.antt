@@ -29,16 +29,16 @@ no_one moments NoneOfThem is other = λ one. let e = ap (λ (l : List ℕ). leng
 no_one moments (OneOfThem now) is other = absurd (other now refl)
 no_one moments Several is other = λ one. omega (arith, one, is)
 
-pub judged_no_start : (config : Config) (text : List ℕ) (s : Starts) (spots : List Spot) → IsIndex text s spots → ((now : ℕ) → s ≡ OneOfThem now → ⊥)
+pub judged_no_start : (config : Config) (text records : List ℕ) (s : Starts) (spots : List Spot) → IsIndex text records s spots → ((now : ℕ) → s ≡ OneOfThem now → ⊥)
     → IsJudged config text NoStart
-judged_no_start config text s spots i other = record {
+judged_no_start config text records s spots i other = record {
   notes = i.notes;
   journal = i.journal;
   verdict_is = no_one (starts i.notes) s i.indexes.starts_are other;
 }
 
 -- an index with one start line, and its spots in another order
-module _ (config : Config) (text : List ℕ) (s : Starts) (start : ℕ) (one : s ≡ OneOfThem start) (given spots : List Spot) (i : IsIndex text s given)
+module _ (config : Config) (text records : List ℕ) (s : Starts) (start : ℕ) (one : s ≡ OneOfThem start) (given spots : List Spot) (i : IsIndex text records s given)
     (shuffled : IsPermutation given spots) where
   abbrev entries : List Placed
   entries = entered i.notes
@@ -63,11 +63,11 @@ module _ (config : Config) (text : List ℕ) (s : Starts) (start : ℕ) (one : s
       let d = length_permutation given spots shuffled in
       omega (arith, a, b, c, d)
 
-  names : All (Names text entries) spots
-  names = All-permutation (Names text entries) given spots shuffled i.indexes.names
+  names : All (Names records entries) spots
+  names = All-permutation (Names records entries) given spots shuffled i.indexes.names
 
-  pub inside : All (IsInside text) spots
-  inside = All-weaker (Names text entries) (IsInside text) (λ x n. n.within) spots names
+  pub inside : All (IsInside records) spots
+  inside = All-weaker (Names records entries) (IsInside records) (λ x n. n.within) spots names
 
   twice_to : (q : ℕ) → HasTwice (places_of spots) q → HasTwice (places_in entries) q
   twice_to q two = let e = same_times q in omega (arith, e, two)
@@ -138,22 +138,22 @@ module _ (config : Config) (text : List ℕ) (s : Starts) (start : ℕ) (one : s
         let inside_of : k < length spots = omega (arith, less, long) in
         record { entry = (names k nothing inside_of).entry; is = alone k nothing inside_of }
 
-    led : AreLed text (history entries) spots
+    led : AreLed records (history entries) spots
     led = record {
       long = in_order_length entries (length entries) singles (length entries) 0 (omega arith) ∙ long;
       leads = λ place d less.
           let n = names place d less in
           record {
             entry = n.entry;
-            within = placed_of i.notes n.entry i.journal.right n.has;
-            line = n.line;
+            within = (placed_of i.notes n.entry i.journal.right n.has).entry;
+            record_is = n.record_is;
             stands =
                 in_order_get entries (length entries) singles (length entries) 0 place (omega arith) (omega (arith, less, long))
                 ∙ ap (λ (k : ℕ). slice_get (at_place k entries) 0) (zero-add place) ∙ ap (λ (l : List Item). slice_get l 0) (alone place d less);
           };
     }
 
-    pub judged_yes : ((h : List Item) → AreLed text h spots → Finds (setting config start) h None) → (count : ℕ) → count ≡ length spots
+    pub judged_yes : ((h : List Item) → AreLed records h spots → Finds (setting config start) h None) → (count : ℕ) → count ≡ length spots
         → IsJudged config text (Yes count)
     judged_yes finds count is = record {
       notes = i.notes;
@@ -167,7 +167,7 @@ module _ (config : Config) (text : List ℕ) (s : Starts) (start : ℕ) (one : s
       };
     }
 
-    pub judged_differs : (place : ℕ) → ((h : List Item) → AreLed text h spots → Finds (setting config start) h (Some place))
+    pub judged_differs : (place : ℕ) → ((h : List Item) → AreLed records h spots → Finds (setting config start) h (Some place))
         → IsJudged config text (Differs place)
     judged_differs place finds = record {
       notes = i.notes;

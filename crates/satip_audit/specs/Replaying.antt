@@ -10,24 +10,31 @@ use Rattle.satip_core.specs.Held.{Held}
 use Rattle.satip_core.specs.Serving.{Stands}
 use Rattle.satip_audit.specs.declared.index.Spot.{Spot}
 use Rattle.satip_audit.specs.declared.verdicts.Verdict.{Verdict}
-use Rattle.satip_audit.specs.Journals.{IsJournal, IsPlaced, Note, Placed, placed_line}
+use Rattle.satip_base.specs.Output.{Output}
+use Rattle.satip_entry_reader.specs.ReadingEntries.{IsEntry, entry_text}
+use Rattle.satip_audit.specs.Journals.{IsJournal, Note, Placed}
 use Rattle.satip_audit.specs.Verdicts.{DiffersAt, IsVerdict, item}
 
--- a spot is within a text
+-- a spot is within some bytes
 abbrev pub IsInside : List ℕ → Spot → Type 0
-IsInside text spot = spot.at + spot.len ≤ length text
+IsInside records spot = spot.at + spot.len ≤ length records
 
--- a spot has the line of the entry at this place of a history
-pub record Leads (text : List ℕ) (h : List Item) (place : ℕ) (spot : Spot) : Type 0 where
+-- a spot has the record of the entry at this place of a history
+pub record Leads (records : List ℕ) (h : List Item) (place : ℕ) (spot : Spot) : Type 0 where
   pub entry : Placed
-  pub within : IsPlaced entry
-  pub line : take spot.len (drop spot.at text) ≡ placed_line entry
+  pub within : IsEntry entry.entry
+  pub record_is : take spot.len (drop spot.at records) ≡ entry_text entry.entry
   pub stands : slice_get h place ≡ Some (item entry)
 
--- spots have the lines of a history's entries, in order
-pub record AreLed (text : List ℕ) (h : List Item) (spots : List Spot) : Type 0 where
+-- spots have the records of a history's entries, in order
+pub record AreLed (records : List ℕ) (h : List Item) (spots : List Spot) : Type 0 where
   pub long : length h ≡ length spots
-  pub leads : (place : ℕ) (d : Spot) → place < length spots → Leads text h place (slice_index_or spots place d)
+  pub leads : (place : ℕ) (d : Spot) → place < length spots → Leads records h place (slice_index_or spots place d)
+
+-- two outputs have the same reply and the same datagrams
+pub record SaysSame (a b : Output) : Type 0 where
+  pub reply : a.reply ≡ b.reply
+  pub datagrams : a.datagrams ≡ b.datagrams
 
 -- the server executed an entry's event, and its answer and output are those of the entry
 pub record DidSo (old : Held) (p : Placed) (new : Held) (st : State) : Type 0 where

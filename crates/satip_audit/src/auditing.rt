@@ -55,11 +55,11 @@ pub fn audit<C: Source, I: Source, O: Sink>(
         Ok(configuration) => configuration,
         Err(end) => return Outcome::from(end),
     };
-    let text = match read_journals(alloc, input) {
+    let mut text = match read_journals(alloc, input) {
         Ok(text) => text,
         Err(end) => return end,
     };
-    match verdict(alloc, configuration, &text) {
+    match verdict(alloc, configuration, &mut text) {
         Ok(verdict) => write_verdict(verdict, output),
         Err(JournalFault::WrongLine(number)) => Outcome::Journals(number),
         Err(JournalFault::OutOfMemory) => Outcome::OutOfMemory,

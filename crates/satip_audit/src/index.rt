@@ -1,19 +1,18 @@
-//! The index of a journal: the position of each entry's line in the text, by the place that it
-//! names.
+//! The index of a journal: the position of each entry's record, by the place that its line names.
 
 ghost use Rattle.std.specs.Prelude.{◌≡◌, ℕ, IfSome, IsNone, length};
 ghost use Rattle.std.specs.List.Sorted.{IsPermutation};
 ghost use Rattle.satip_audit.specs.Places.{Climbs, Counts, HasTwice, IsLeast, IsMissing, Rises, times};
 ghost use Rattle.satip_audit.specs.Spots.{places_of};
 
-/// An entry's line: the place that it names, and its position and length in the text.
+/// An entry: the place that its line names, and the position and length of its record.
 #[derive(Clone, Copy, Debug, PartialEq, Eq, Drop)]
 pub struct Spot {
     /// The place that the line names.
     pub place: u64,
-    /// The position of its first byte in the text.
+    /// The position of the record's first byte.
     pub at: u32,
-    /// Its length in bytes.
+    /// The length of the record in bytes.
     pub len: u32,
 }
 

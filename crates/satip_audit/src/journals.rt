@@ -1,4 +1,4 @@
-//! An index of journals: their start lines, and the positions of their entries' lines.
+//! An index of journals: their start lines, and the positions of their entries' records.
 
 ghost use Rattle.std.specs.Prelude.{ℕ, List, [], ◌∷◌, ◌++◌};
 ghost use Rattle.satip_audit.specs.Indexes.{AreStarts};
@@ -44,6 +44,6 @@ impl Starts {
 pub struct Index {
     /// Their start lines.
     pub starts: Starts,
-    /// The entries' lines, in the order of the text.
+    /// The entries, in the order of the text.
     pub spots: Vec<Spot>,
 }

@@ -6,6 +6,7 @@
 
 mod auditing;
 mod command;
+mod comparing;
 mod cutting;
 mod index;
 mod indexing;

@@ -1,9 +1,10 @@
 //! Reads the lines of journals. A line is read leniently, written again, and compared. So leading
 //! zeros, upper case and CR are wrong.
 
-ghost use Rattle.std.specs.Prelude.{◌≡◌, ◌<◌, ◌^◌, ◌++◌, ◌∷◌, ℕ, List, length, decimal, false, Some, IfSome, IsNone, IsSomeAnd};
+ghost use Rattle.std.specs.Prelude.{◌≡◌, ◌<◌, ◌≤◌, ◌^◌, ◌++◌, ◌∷◌, ℕ, List, length, take, decimal, false, Some, IfSome, IsNone, IsSomeAnd};
 ghost use Rattle.std.specs.List.{list_any};
 ghost use Rattle.satip_entry_writer.specs.Lines.{start_line};
+ghost use Rattle.satip_entry_writer.specs.Records.{record_text};
 ghost use Rattle.satip_audit.specs.Cuts.{is_byte, words_line};
 ghost use Rattle.satip_audit.specs.Journals.{IsPlaced, Placed as PlacedEntry, placed, placed_line};
 
@@ -13,17 +14,18 @@ use satip_entry_reader::read_record;
 use satip_entry_writer::{LineRoom, write_entry, write_start};
 use satip_plain::{Answer, Event};
 
-/// The content of an entry's line, without the reply and the datagrams.
-#[derive(Drop)]
+/// The content of an entry's line, without the event, the reply and the datagrams, and the length
+/// of its record.
+#[derive(Clone, Copy, Debug, PartialEq, Eq, Drop)]
 pub struct Found {
     /// The entry's place in the history.
     pub place: u64,
     /// The number of the caller.
     pub caller: u64,
-    /// The event.
-    pub event: Event,
     /// The answer.
     pub answer: Answer,
+    /// The length of the record in bytes.
+    pub len: usize,
 }
 
 // Reads a number with a space after it. Returns the rest of the text with it.
@@ -92,20 +94,25 @@ pub fn read_start(line: &[u8], room: &mut LineRoom) -> Option<u64>
     Some(now)
 }
 
-/// Returns the content of an entry's line, and writes its reply and its datagrams into `out`.
-/// Returns None if the line is no entry's. The record is decoded into `record_room`.
+/// Returns the content of an entry's line. Writes its event over `event`, and its reply and its
+/// datagrams into `out`. Returns None if the line is no entry's. The record is decoded into the front of `record_room`.
 pub fn read_entry(
     line: &[u8],
+    event: &mut Event,
     out: &mut Out,
     room: &mut LineRoom,
     record_room: &mut [u8],
 ) -> Option<Found>
     requires room { length record_room.old ≡ 400000 }
     ensures right { IfSome result (λ f. line.now ≡ placed_line
-        (placed f.place f.caller f.event f.answer out.new)) }
+        (placed f.place f.caller event.new f.answer out.new)) }
     ensures within { IfSome result (λ f. IsPlaced
-        (placed f.place f.caller f.event f.answer out.new)) }
+        (placed f.place f.caller event.new f.answer out.new)) }
     ensures none { IsNone result → (p : PlacedEntry) → IsPlaced p → line.now ≡ placed_line p → ⊥ }
+    ensures front { IfSome result (λ f. take f.len record_room.new
+        ≡ record_text event.new f.answer out.new.reply out.new.datagrams) }
+    ensures len { IfSome result (λ f. f.len ≤ length record_room.new) }
+    ensures fits { IfSome result (λ f. f.len ≤ length line.now) }
 {
     let Some((place, caller, digits)) = entry_words(line) else {
         return None;
@@ -114,17 +121,17 @@ pub fn read_entry(
         return None;
     };
     let bytes = &record_room[..count];
-    let Some((event, answer)) = read_record(bytes, out) else {
+    let Some(answer) = read_record(bytes, event, out) else {
         return None;
     };
-    write_entry(place, caller, &event, &answer, out, room);
+    write_entry(place, caller, event, &answer, out, room);
     if !same_bytes(room.bytes(), line) {
         return None;
     }
     Some(Found {
         place,
         caller,
-        event,
         answer,
+        len: count,
     })
 }

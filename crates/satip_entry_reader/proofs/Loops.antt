@@ -75,21 +75,6 @@ read_all text read count place o n done same before =
     let left : count - place ≡ 0 = omega (arith, same) in
     sym (ends read done n) ∙ ap (λ m. read_more read m done n) (sym left) ∙ before.more
 
--- one place more is filled
-pub filled_more : (i byte : ℕ) (o m n places : List ℕ) → i < length places → m ≡ u8_text byte ++ n → o ≡ take i places ++ m
-    → o ≡ take (i + 1) (slice_set places i byte) ++ n
-unfolding u8_text
-filled_more i byte o m n places inside front before =
-    rw (take_more_set places i byte inside)
-    (before ∙ ap (λ t. take i places ++ t) front ∙ sym (append_assoc (take i places) (byte ∷ []) n))
-
--- no byte is left before the places are filled
-pub filling_fails : (i : ℕ) (o m places : List ℕ) → i < length places → None ≡ u8_read m → o ≡ take i places ++ m → length o < length places
-unfolding u8_read
-filling_fails i o [] places inside none before =
-    omega (arith, inside, ap length before, length-append (take i places) [], length-take-le i places (omega (arith, inside)))
-filling_fails i o (b ∷ m) places inside none before = cc none
-
 -- a list that isn't full takes one PID more
 pub pushed : (b : Bool) (xs ys : List ℕ) (x : ℕ) → MatchBool b (length xs < 512) (length xs ≡ 512) → MatchBool b (ys ≡ xs ++ x ∷ []) (ys ≡ xs)
     → length xs < 512 → xs ++ x ∷ [] ≡ ys
@@ -100,23 +85,6 @@ pushed false xs ys x room put few = absurd (omega (arith, room, few))
 pub too_few : (count : ℕ) (o : List ℕ) → length o < count → None ≡ read_bytes count o
 unfolding read_bytes
 too_few count o few = let no : nat_le count (length o) ≡ false = grind (arith, nat_tests, few) in rw no refl
-
--- no byte is left before so many are read
-pub reading_fails : (i count : ℕ) (o m places : List ℕ) → i < count → i ≤ length places → None ≡ u8_read m → o ≡ take i places ++ m → length o < count
-unfolding u8_read
-reading_fails i count o [] places inside fits none before =
-    omega (arith, inside, ap length before, length-append (take i places) [], length-take-le i places fits)
-reading_fails i count o (b ∷ m) places inside fits none before = cc none
-
--- the first places are what is kept
-pub kept_is : (place count : ℕ) (kept places : List ℕ) → place ≡ count → count ≤ 128 → length places ≡ 128 → kept ≡ take 128 (take count places)
-    → kept ≡ take place places
-kept_is place count kept places same few size first =
-    first ∙ take_all 128 (take count places) (omega (arith, few, size, length-take-le count places (omega (arith, few, size))))
-    ∙ ap (λ n. take n places) (sym same)
-
-pub length_kept : (place count : ℕ) (places : List ℕ) → place ≡ count → count ≤ 128 → length places ≡ 128 → length (take place places) ≡ count
-length_kept place count places same few size = length-take-le place places (omega (arith, same, few, size)) ∙ same
 
 -- as many bytes as there are in front
 pub bytes_in_front : (count : ℕ) (o places rest : List ℕ) → o ≡ places ++ rest → length places ≡ count → read_bytes count o ≡ Some (places, rest)
@@ -138,3 +106,9 @@ pub packet_in_front : (found : Option (List ℕ)) (o places rest : List ℕ) →
 unfolding packet_read
 packet_in_front found o places rest whole size none some =
     rw (bytes_in_front 188 o places rest whole size) (by_sync found places rest (nat_eq (slice_index places 0) 71) refl none some)
+
+-- the packet that those bytes are
+pub packet_behind : (found : Option (List ℕ)) (o places rest : List ℕ) → o ≡ places ++ rest → IfSome found (λ packet. packet ≡ places)
+    → IfSome found (λ packet. o ≡ packet ++ rest)
+packet_behind None o places rest whole some = tt
+packet_behind (Some packet) o places rest whole some = whole ∙ ap (λ (p : List ℕ). p ++ rest) (sym some)

@@ -1,5 +1,5 @@
 -- Bytes and datagrams that are read into an output one after another.
-use Rattle.std.proofs.Common.{◌≡◌, ℕ, zero, suc, ◌+◌, ◌-◌, ◌≤◌, ◌<◌, List, [], ◌∷◌, ◌++◌, append-nil, append_assoc, length, length-append, flat_map, take, drop, add-one, Bool, true, false, nat_le, Option, Some, None, arith, refl, sym, ◌∙◌, ap, subst}
+use Rattle.std.proofs.Common.{◌≡◌, ℕ, zero, suc, ◌+◌, ◌-◌, ◌≤◌, ◌<◌, List, [], ◌∷◌, ◌++◌, append-nil, append_assoc, length, length-append, flat_map, take, drop, add-one, Bool, true, false, nat_le, if◌then◌else◌, Option, Some, None, arith, refl, sym, ◌∙◌, ap, subst}
 use Rattle.std.proofs.lemmas.Grind.{flat_map-append}
 use Rattle.std.proofs.lemmas.List.{length-drop, length-take-le, take-append-drop}
 use Rattle.satip_base.specs.declared.network.Address.{Address}
@@ -12,6 +12,7 @@ use Rattle.satip_plain.specs.declared.events.Event.{Event}
 use Rattle.satip_plain.specs.declared.answers.Answer.{Answer}
 use Rattle.satip_base.specs.declared.limits.TheConstants.{REPLY_BYTES, EVENT_BYTES, EVENT_DATAGRAMS}
 use Rattle.std.specs.Bool.{MatchBool}
+use Rattle.std.proofs.lemmas.Option.{same_Some}
 use Rattle.std.proofs.lemmas.Bool.Decides.{nat_tests}
 use Rattle.satip_entry_writer.specs.Records.{datagram_text}
 use Rattle.satip_entry_reader.specs.ReadingLists.{read_bytes}
@@ -21,56 +22,40 @@ use Rattle.satip_entry_reader.specs.Taking.{TakesDatagram, TakesDatagrams, Takes
 use Rattle.satip_entry_reader.proofs.Loops.{behind_none, behind_one, too_few, whole}
 use Rattle.satip_entry_reader.proofs.ListsAgain.{within}
 
-front_at : (i : ℕ) (o n : List ℕ) (b : ℕ) → b ∷ n ≡ drop i o → take (suc i) o ≡ take i o ++ b ∷ []
-front_at zero [] n b h = cc h
-front_at zero (x ∷ o) n b h = let same : x ≡ b = cc in ap (λ y. y ∷ []) same
-front_at (suc i) [] n b h = cc h
-front_at (suc i) (x ∷ o) n b h = ap (λ (t : List ℕ). x ∷ t) (front_at i o n b h)
+taken_by : (b : Bool) (count : ℕ) (o t n : List ℕ) → nat_le count (length o) ≡ b
+    → ◌≡◌ {A = Option (List ℕ × List ℕ)} (Some (t, n)) (if b then Some (take count o, drop count o) else None)
+    → (count ≤ length o) × (t ≡ take count o) × (n ≡ drop count o)
+taken_by true count o t n le e =
+    let pair : (t, n) ≡ (take count o, drop count o) = same_Some _ _ e in
+    (grind (arith, nat_tests, le), ap (λ (x : List ℕ × List ℕ). x.0) pair, ap (λ (x : List ℕ × List ℕ). x.1) pair)
+taken_by false count o t n le e = absurd (cc e)
 
-rest_at : (i : ℕ) (o n : List ℕ) (b : ℕ) → b ∷ n ≡ drop i o → n ≡ drop (suc i) o
-rest_at zero [] n b h = cc h
-rest_at zero (x ∷ o) n b h = let same : n ≡ o = cc in same
-rest_at (suc i) [] n b h = cc h
-rest_at (suc i) (x ∷ o) n b h = rest_at i o n b h
+-- bytes that are read are the first
+taken_is : (count : ℕ) (o t n : List ℕ) → Some (t, n) ≡ read_bytes count o → (count ≤ length o) × (t ≡ take count o) × (n ≡ drop count o)
+unfolding read_bytes
+taken_is count o t n e = taken_by (nat_le count (length o)) count o t n refl e
 
-inside_at : (i : ℕ) (o n : List ℕ) (b : ℕ) → b ∷ n ≡ drop i o → suc i ≤ length o
-inside_at zero [] n b h = cc h
-inside_at zero (x ∷ o) n b h = omega arith
-inside_at (suc i) [] n b h = cc h
-inside_at (suc i) (x ∷ o) n b h = omega (arith, inside_at i o n b h)
+none_by : (b : Bool) (count : ℕ) (o : List ℕ) → nat_le count (length o) ≡ b
+    → ◌≡◌ {A = Option (List ℕ × List ℕ)} None (if b then Some (take count o, drop count o) else None)
+    → length o < count
+none_by true count o le e = absurd (cc e)
+none_by false count o le e = grind (arith, nat_tests, le)
 
-pub reply_none : (o : List ℕ) (p : Output) → TakesReply 0 o o p p
-reply_none o p = record { fits = omega arith; rest = refl; wrote = nothing_wrote p }
+-- where so many bytes aren't read, there are fewer
+pub few_bytes : (count : ℕ) (o : List ℕ) → None ≡ read_bytes count o → length o < count
+unfolding read_bytes
+few_bytes count o e = none_by (nat_le count (length o)) count o refl e
 
-pub reply_more : {p q r : Output} (i byte : ℕ) (o m n : List ℕ) → m ≡ u8_text byte ++ n → Wrote q (byte ∷ []) r → TakesReply i o m p q
-    → TakesReply (i + 1) o n p r
-unfolding u8_text
-reply_more {p = p} {r = r} i byte o m n front wrote before =
-    let here : byte ∷ n ≡ drop i o = sym front ∙ before.rest in
-    rw add-one (record {
-      fits = inside_at i o n byte here;
-      rest = rest_at i o n byte here;
-      wrote = subst (λ t. Wrote p t r) (sym (front_at i o n byte here)) (before.wrote then wrote);
-    })
+pub reply_taken : {p q : Output} (count : ℕ) (o t n : List ℕ) → Some (t, n) ≡ read_bytes count o → Wrote p t q → TakesReply count o n p q
+reply_taken {p = p} {q = q} count o t n e wrote =
+    let is = taken_is count o t n e in
+    record { fits = is.0; rest = is.2; wrote = subst (λ x. Wrote p x q) is.1 wrote }
 
-pub payload_none : {p q : Output} (to : Address) (o : List ℕ) → Sends p to [] q → TakesPayload to 0 o o p q
-payload_none to o begun = record { fits = omega arith; rest = refl; sent = begun }
-
-pub payload_more : {p q r : Output} (to : Address) (i byte : ℕ) (o m n : List ℕ) → m ≡ u8_text byte ++ n → Extended q (byte ∷ []) r
-    → TakesPayload to i o m p q → TakesPayload to (i + 1) o n p r
-unfolding u8_text
-payload_more {p = p} {r = r} to i byte o m n front wrote before =
-    let here : byte ∷ n ≡ drop i o = sym front ∙ before.rest in
-    rw add-one (record {
-      fits = inside_at i o n byte here;
-      rest = rest_at i o n byte here;
-      sent = subst (λ t. Sends p to t r) (sym (front_at i o n byte here)) (before.sent then_extended wrote);
-    })
-
-pub ran_out : (i count : ℕ) (o m : List ℕ) → None ≡ u8_read m → m ≡ drop i o → i < count → length o < count
-unfolding u8_read
-ran_out i count o [] none rest inside = omega (arith, inside, length-drop i o, ap length rest)
-ran_out i count o (b ∷ m) none rest inside = cc none
+pub payload_taken : {p q : Output} (to : Address) (count : ℕ) (o t n : List ℕ) → Some (t, n) ≡ read_bytes count o → Sends p to t q
+    → TakesPayload to count o n p q
+payload_taken {p = p} {q = q} to count o t n e sent =
+    let is = taken_is count o t n e in
+    record { fits = is.0; rest = is.2; sent = subst (λ x. Sends p to x q) is.1 sent }
 
 -- of so many datagrams those before a place are taken
 pub record SomeTaken (count place : ℕ) (o n : List ℕ) (p q : Output) : Type 0 where

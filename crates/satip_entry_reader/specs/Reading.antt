@@ -20,6 +20,11 @@ abbrev pub behind : {T : Type 0} → Option T → List ℕ → Option (T × List
 behind None rest = None
 behind (Some x) rest = Some (x, rest)
 
+-- the value that was written, if one was read
+abbrev pub kept_if : {T : Type 0} → Bool → T → Option T
+kept_if false x = None
+kept_if true x = Some x
+
 -- the next value is read after another
 abbrev pub then_read : {T U : Type 0} → Option (T × List ℕ) → (T → List ℕ → Option (U × List ℕ)) → Option (U × List ℕ)
 then_read None next = None

@@ -50,8 +50,8 @@ entry_read bytes =
 abbrev pub IsNoRecord : List ℕ → Type 0
 IsNoRecord bytes = (entry : Entry) → IsEntry entry → bytes ≡ entry_text entry → ⊥
 
--- an entry of the value that was read and of the output after it
-abbrev pub entry_behind : Option (Event × Answer) → Output → List ℕ → Option (Entry × List ℕ)
-entry_behind None out rest = None
-entry_behind (Some (event, answer)) out rest =
+-- an entry of the event and the answer that were read, and of the output after them
+abbrev pub entry_behind : Event → Option Answer → Output → List ℕ → Option (Entry × List ℕ)
+entry_behind event None out rest = None
+entry_behind event (Some answer) out rest =
     Some (record { event = event; answer = answer; reply = out.reply; datagrams = out.datagrams }, rest)

@@ -1,6 +1,6 @@
 //! Whole entries, read from the bytes of a record.
 
-ghost use Rattle.std.specs.Prelude.{◌≡◌, ◌≢◌, ◌≤◌, ◌<◌, [], ◌++◌, length, IfSome, IsNone, None};
+ghost use Rattle.std.specs.Prelude.{◌≡◌, ◌≢◌, ◌≤◌, ◌<◌, [], ◌++◌, length, IfSome, IsNone, None, Some};
 ghost use Rattle.std.specs.Bool.{MatchBool};
 ghost use Rattle.satip_base.specs.Output.{empty};
 ghost use Rattle.satip_entry_writer.specs.Records.{record_text};
@@ -13,18 +13,20 @@ use satip_base::limits::{EVENT_DATAGRAMS, REPLY_BYTES};
 use satip_base::{Address, Out};
 use satip_plain::{Answer, Event};
 
-/// Reads the record of an entry. Returns its event and its answer, and writes its reply and its
-/// datagrams into `out`. Returns None exactly if the bytes are no record; `out` is then empty. It
-/// takes no memory.
-pub fn read_record(bytes: &[u8], out: &mut Out) -> Option<(Event, Answer)>
-    ensures right { IfSome result (λ r. bytes.now ≡ record_text r.0 r.1 out.new.reply
+/// Reads the record of an entry. Returns its answer, and writes its event over `event`, and its
+/// reply and its datagrams into `out`. Returns None exactly if the bytes are no record; `event` is
+/// then unspecified, and `out` is empty. It takes no memory.
+pub fn read_record(bytes: &[u8], event: &mut Event, out: &mut Out) -> Option<Answer>
+    ensures right { IfSome result (λ answer. bytes.now ≡ record_text event.new answer out.new.reply
         out.new.datagrams) }
+    ensures read { IfSome result (λ answer. entry_read bytes.now
+        ≡ entry_behind event.new (Some answer) out.new []) }
     ensures none { IsNone result → IsNoRecord bytes.now }
     ensures empty { IsNone result → out.new ≡ empty }
 {
     out.clear();
     let mut reading = Reading::new(bytes);
-    let Some(entry) = read_entry(&mut reading, out) else {
+    let Some(answer) = read_entry(&mut reading, event, out) else {
         out.clear();
         return None;
     };
@@ -32,7 +34,7 @@ pub fn read_record(bytes: &[u8], out: &mut Out) -> Option<(Event, Answer)>
         out.clear();
         return None;
     }
-    Some(entry)
+    Some(answer)
 }
 
 // Tells whether nothing is left to read.
@@ -46,15 +48,15 @@ fn is_end(bytes: &mut Reading<'_>) -> bool
 }
 
 #[tactic(auto, unfolding(crate::specs::ReadingEntries::entry_read, crate::specs::ReadingEntries::read_datagram_list, crate::specs::ReadingEntries::read_counted, satip_entry_writer::specs::Records::record_text))]
-fn read_entry(bytes: &mut Reading<'_>, out: &mut Out) -> Option<(Event, Answer)>
+fn read_entry(bytes: &mut Reading<'_>, event: &mut Event, out: &mut Out) -> Option<Answer>
     requires empty { out.old ≡ empty }
-    ensures read { entry_behind result out.new bytes.new ≡ entry_read bytes.old }
-    ensures front { IfSome result (λ r. bytes.old ≡ record_text r.0 r.1 out.new.reply
+    ensures read { entry_behind event.new result out.new bytes.new ≡ entry_read bytes.old }
+    ensures front { IfSome result (λ answer. bytes.old ≡ record_text event.new answer out.new.reply
         out.new.datagrams ++ bytes.new) }
 {
-    let Some(event) = read_event(bytes) else {
+    if !read_event(bytes, event) {
         return None;
-    };
+    }
     let Some(answer) = bytes.read_answer() else {
         return None;
     };
@@ -76,7 +78,7 @@ fn read_entry(bytes: &mut Reading<'_>, out: &mut Out) -> Option<(Event, Answer)>
     if !read_datagrams(count, bytes, out) {
         return None;
     }
-    Some((event, answer))
+    Some(answer)
 }
 
 // Reads `count` bytes and appends them to the reply. Returns false if there are fewer.
@@ -85,12 +87,10 @@ fn read_reply(count: u32, bytes: &mut Reading<'_>, out: &mut Out) -> bool
     ensures read { MatchBool result (TakesReply count bytes.old bytes.new out.old out.new)
         (length bytes.old < count) }
 {
-    'reply: for place in 0..count {
-        let Some(byte) = bytes.read_u8() else {
-            return false;
-        };
-        out.write(&[byte]);
-    }
+    let Some(reply) = bytes.read_bytes(count as usize) else {
+        return false;
+    };
+    out.write(reply);
     true
 }
 
@@ -101,13 +101,11 @@ fn read_payload(to: Address, count: u32, bytes: &mut Reading<'_>, out: &mut Out)
     ensures read { MatchBool result (TakesPayload to count bytes.old bytes.new out.old out.new)
         (length bytes.old < count) }
 {
+    let Some(payload) = bytes.read_bytes(count as usize) else {
+        return false;
+    };
     out.begin(to);
-    'payload: for place in 0..count {
-        let Some(byte) = bytes.read_u8() else {
-            return false;
-        };
-        out.extend(&[byte]);
-    }
+    out.extend(payload);
     true
 }
 

@@ -1,7 +1,6 @@
 //! Lists of numbers, read from the front of a record's bytes.
 
 ghost use Rattle.std.specs.Prelude.{◌≡◌, ◌<◌, ◌≤◌, ◌++◌, IfSome, flat_map, length};
-ghost use Rattle.std.specs.Bool.{MatchBool};
 ghost use Rattle.satip_entry_writer.specs.Fields.{u16_text, pid_list_text};
 ghost use Rattle.satip_entry_reader.specs.Reading.{behind};
 ghost use Rattle.satip_entry_writer.specs.Requests.{short_text};
@@ -10,22 +9,6 @@ ghost use Rattle.satip_entry_reader.specs.ReadingLists.{read_bytes, read_each, p
 use crate::reading::Reading;
 use satip_pids::PidList;
 use satip_rtsp::Short;
-
-/// Fills the places with the next bytes. Returns false if there are fewer; the places and the rest
-/// of the bytes are then unspecified.
-pub fn fill(places: &mut [u8], bytes: &mut Reading<'_>) -> bool
-    ensures filled { MatchBool result (bytes.old ≡ places.new ++ bytes.new)
-        (length bytes.old < length places.old) }
-    ensures size { length places.new ≡ length places.old }
-{
-    'places: for place in 0..places.len() {
-        let Some(byte) = bytes.read_u8() else {
-            return false;
-        };
-        places[place] = byte;
-    }
-    true
-}
 
 #[tactic(auto, unfolding(crate::specs::ReadingLists::pid_read))]
 fn read_pid(bytes: &mut Reading<'_>) -> Option<u16>
@@ -91,20 +74,15 @@ pub fn read_short(bytes: &mut Reading<'_>) -> Option<Short>
     read_kept(count, bytes)
 }
 
-// Reads `count` bytes of a text, whose first 128 are kept.
-#[tactic(auto, unfolding(crate::specs::ReadingLists::read_bytes))]
+// Reads `count` bytes of a text.
 fn read_kept(count: u16, bytes: &mut Reading<'_>) -> Option<Short>
     requires few { count ≤ 128 }
     ensures read { behind result bytes.new ≡ read_bytes count bytes.old }
     ensures front { IfSome result (λ kept. bytes.old ≡ kept ++ bytes.new) }
     ensures count { IfSome result (λ kept. length kept ≡ count) }
 {
-    let mut places = [0; 128];
-    'kept: for place in 0..count as usize {
-        let Some(byte) = bytes.read_u8() else {
-            return None;
-        };
-        places[place] = byte;
-    }
-    Some(Short::of(&places[..count as usize]))
+    let Some(text) = bytes.read_bytes(count as usize) else {
+        return None;
+    };
+    Some(Short::of(text))
 }

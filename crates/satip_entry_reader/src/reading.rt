@@ -1,8 +1,10 @@
 //! The parts of a record, read from the front of its bytes.
 
-ghost use Rattle.std.specs.Prelude.{◌≡◌, ◌++◌, IfSome};
+ghost use Rattle.std.specs.Prelude.{◌≡◌, ◌++◌, IfSome, length};
+ghost use Rattle.std.specs.Option.{option_copied};
 ghost use Rattle.satip_entry_writer.specs.Fields.{u8_text, u16_text, u32_text, u64_text, bool_text};
 ghost use Rattle.satip_entry_reader.specs.Reading.{behind, u8_read, u16_read, u32_read, u64_read, bool_read};
+ghost use Rattle.satip_entry_reader.specs.ReadingLists.{read_bytes};
 
 use std::marker::Model;
 
@@ -27,6 +29,21 @@ impl<'a> Reading<'a> {
         ensures bytes { result ≡ bytes.now }
     {
         Reading { rest: bytes }
+    }
+
+    /// Reads the next `count` bytes, and returns them where they are.
+    #[tactic(auto, unfolding(crate::specs::ReadingLists::read_bytes))]
+    pub fn read_bytes(&mut self, count: usize) -> Option<&'a [u8]>
+        ensures read { behind (option_copied result) self.new ≡ read_bytes count self.old }
+        ensures front { IfSome result (λ taken. self.old ≡ taken.now ++ self.new) }
+        ensures count { IfSome result (λ taken. length taken.now ≡ count) }
+    {
+        if count > self.rest.len() {
+            return None;
+        }
+        let (taken, rest) = self.rest.split_at(count);
+        self.rest = rest;
+        Some(taken)
     }
 
     /// Reads a byte.

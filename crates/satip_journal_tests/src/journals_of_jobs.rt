@@ -96,7 +96,7 @@ fn count_lines(text: &[u8]) -> u64 {
 
 // Asserts that journals have at least `least` lines, and that all but the start line are entries of
 // one history. Their server has this number of workers.
-fn check_history(rt: &impl Abort, alloc: Global, workers: u16, text: &[u8], least: u64) {
+fn check_history(rt: &impl Abort, alloc: Global, workers: u16, text: &mut [u8], least: u64) {
     let lines = count_lines(text);
     check_least(rt, "lines", lines, least);
     let said = judged(rt, alloc, 0, workers, text);
@@ -117,16 +117,16 @@ fn the_programs_journal_begins_with_the_start(rt: HostRuntime) {
 #[test]
 fn the_journals_of_all_jobs_are_one_history(rt: HostRuntime) {
     let sinks = journals_of(&rt, rt.alloc(), ONE);
-    let text = backwards(&rt, rt.alloc(), &sinks);
-    check_history(&rt, rt.alloc(), 1, &text, 4);
+    let mut text = backwards(&rt, rt.alloc(), &sinks);
+    check_history(&rt, rt.alloc(), 1, &mut text, 4);
 }
 
 #[test]
 fn the_lines_of_ten_journals_in_another_order_are_one_history(rt: HostRuntime) {
     let sinks = journals_of(&rt, rt.alloc(), EIGHT);
     let lines = lines_of(&rt, rt.alloc(), &sinks);
-    let text = lines_backwards(&rt, rt.alloc(), &lines);
-    check_history(&rt, rt.alloc(), 8, &text, 11);
+    let mut text = lines_backwards(&rt, rt.alloc(), &lines);
+    check_history(&rt, rt.alloc(), 8, &mut text, 11);
 }
 
 // Returns the number of the job on the line of an entry, and None on another line.

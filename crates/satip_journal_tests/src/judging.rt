@@ -13,7 +13,7 @@ pub(crate) fn judged(
     alloc: Global,
     fronts: u16,
     workers: u16,
-    text: &[u8],
+    text: &mut [u8],
 ) -> Verdict {
     assert!(rt; fronts <= 16);
     assert!(rt; text.len() < 100_000_000, "{} bytes", text.len());

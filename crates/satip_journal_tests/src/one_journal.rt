@@ -129,8 +129,8 @@ fn with_start(rt: &impl Abort, alloc: Global, journal: &[u8]) -> Vec<u8> {
 #[test]
 fn a_journal_of_some_megabytes_is_judged_yes(rt: HostRuntime) {
     let journal = run_case(&rt, rt.alloc(), MANY_BURSTS);
-    let text = with_start(&rt, rt.alloc(), journal.sink().sent());
+    let mut text = with_start(&rt, rt.alloc(), journal.sink().sent());
     check_least(&rt, "bytes", text.len() as u64, 4_000_001);
-    let said = judged(&rt, rt.alloc(), 1, 8, &text);
+    let said = judged(&rt, rt.alloc(), 1, 8, &mut text);
     check(&rt, "verdict", said, Verdict::Yes(131_072));
 }

@@ -1,4 +1,4 @@
-//! Tests numbers, texts, tunings, queries and configurations.
+//! Tests numbers, texts, tunings, queries, configurations, and messages in pieces.
 #![tactic(auto)]
 
 #[cfg(test)]
@@ -7,6 +7,8 @@ mod base;
 mod checks;
 #[cfg(test)]
 mod config;
+#[cfg(test)]
+mod cuts;
 #[cfg(test)]
 mod query;
 #[cfg(test)]

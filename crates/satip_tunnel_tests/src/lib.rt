@@ -1,4 +1,4 @@
-//! Tests lanes, callers of a shared tunnel, and its connections and workers over memory.
+//! Tests lanes, callers of a tunnel, its connections and workers, and what long messages cost.
 #![tactic(auto)]
 
 #[cfg(test)]
@@ -7,6 +7,8 @@ mod callers;
 mod checks;
 #[cfg(test)]
 mod connections;
+#[cfg(test)]
+mod drips;
 #[cfg(test)]
 mod lanes;
 #[cfg(test)]

@@ -9,5 +9,5 @@ returns-in-Err-read_journals-clause-ends g c = input_ends _ _ _ _ _ _ _ _ _ _ c.
 
 pub returns-in-Ok-verdict-clause-ends : goal.returns-in-Ok-verdict-clause-ends
 returns-in-Ok-verdict-clause-ends g c =
-    write_ends _ _ _ _ _ _ _ _ _ _ _ c.deref.result.now _ c.in-Ok.ensures.ok c.in-Ok-read_journals.ensures.ok c.deref.ensures.value
+    write_ends _ _ _ _ _ _ _ _ _ _ _ c.deref_mut.result.now _ c.in-Ok.ensures.ok c.in-Ok-read_journals.ensures.ok c.deref_mut.ensures.value
     c.in-Ok-verdict.ensures.verdict c.in-Ok-verdict.ensures.legal _ c.write_verdict.ensures.ends

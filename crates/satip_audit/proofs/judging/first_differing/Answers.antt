@@ -7,7 +7,7 @@ use Rattle.satip_audit.proofs.judging.first_differing.Goals as goal
 
 pub returns : goal.returns
 returns c = record {
-  finds = finds_as c.args.text.now c.args.spots.now (setting c.args.config c.args.start) c.in_ok-server.server c.replay_lines.result
-      c.in_ok-server.ensures.setting c.in_ok-server.ensures.opening c.replay_lines.ensures.finds;
+  finds = finds_as c.args.records.now c.args.spots.now (setting c.args.config c.args.start) c.in_ok-server.server c.replay_records.result
+      c.in_ok-server.ensures.setting c.in_ok-server.ensures.opening c.replay_records.ensures.finds;
   opens = subst (λ (s : Setting). Legal s []) c.in_ok-server.ensures.setting c.in_ok-server.ensures.history.lawful;
 }

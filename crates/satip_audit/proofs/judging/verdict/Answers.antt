@@ -9,12 +9,12 @@ use Rattle.satip_audit.proofs.VerdictLemmas.{inside, judged_differs, judged_miss
 use Rattle.satip_audit.proofs.judging.verdict.Goals as goal
 
 pub returns-in_default-clause-verdict : goal.returns-in_default-clause-verdict
-returns-in_default-clause-verdict c = judged_no_start c.args.config c.args.text.now _ _ c.in_ok-index.ensures.index c.in_default.not-One
+returns-in_default-clause-verdict c = judged_no_start c.args.config c.args.text.now _ _ _ c.in_ok-index.ensures.index c.in_default.not-One
 
 pub returns-in-Some-clause-verdict : goal.returns-in-Some-clause-verdict
 returns-in-Some-clause-verdict c =
     let P : List Spot → Type 0 = λ ss. IsLeast (λ q. HasTwice (places_of ss) q) c.in-Some.place in
-    judged_repeated c.args.config c.args.text.now _ c.in-One.start c.in-One.is _ c.sort_spots.new.spots.items c.in_ok-index.ensures.index
+    judged_repeated c.args.config c.args.text.now _ _ c.in-One.start c.in-One.is _ c.sort_spots.new.spots.items c.in_ok-index.ensures.index
     c.sort_spots.ensures.permutation c.in-Some.place (subst P c.deref.ensures.value c.in-Some.ensures.repeated)
 
 pub returns-in-Some-first_missing-clause-verdict : goal.returns-in-Some-first_missing-clause-verdict
@@ -22,24 +22,24 @@ returns-in-Some-first_missing-clause-verdict c =
     let place = c.in-Some-first_missing.place in
     let P : List Spot → Type 0 = λ ss. IsLeast (λ q. IsMissing (places_of ss) q) place in
     let Q : List Spot → Type 0 = λ ss. Rises 0 (places_of ss) in
-    judged_missing c.args.config c.args.text.now _ c.in-One.start c.in-One.is _ c.sort_spots.new.spots.items c.in_ok-index.ensures.index
+    judged_missing c.args.config c.args.text.now _ _ c.in-One.start c.in-One.is _ c.sort_spots.new.spots.items c.in_ok-index.ensures.index
     c.sort_spots.ensures.permutation place (subst Q c.deref.ensures.value (c.in_default-first_repeated.ensures.rises refl))
     (subst P c.deref-2.ensures.value c.in-Some-first_missing.ensures.missing)
 
 pub first_differing-requires-clause-inside : goal.first_differing-requires-clause-inside
 first_differing-requires-clause-inside c =
-    let P : List Spot → Type 0 = λ ss. All (IsInside c.args.text.now) ss in
+    let P : List Spot → Type 0 = λ ss. All (IsInside c.index_journals.new.text) ss in
     subst P (sym c.deref-3.ensures.value)
-    (inside c.args.config c.args.text.now _ c.in-One.start c.in-One.is _ c.sort_spots.new.spots.items c.in_ok-index.ensures.index
+    (inside c.args.config c.args.text.now _ _ c.in-One.start c.in-One.is _ c.sort_spots.new.spots.items c.in_ok-index.ensures.index
     c.sort_spots.ensures.permutation)
 
 pub returns-in-Ok-None-clause-verdict : goal.returns-in-Ok-None-clause-verdict
 returns-in-Ok-None-clause-verdict c =
     let Q : List Spot → Type 0 = λ ss. Counts 0 (places_of ss) in
     let finds = rw c.in-Ok-None.field-0-is at c.in-Ok-None.ensures.finds in
-    judged_yes c.args.config c.args.text.now _ c.in-One.start c.in-One.is _ c.sort_spots.new.spots.items c.in_ok-index.ensures.index
+    judged_yes c.args.config c.args.text.now _ _ c.in-One.start c.in-One.is _ c.sort_spots.new.spots.items c.in_ok-index.ensures.index
     c.sort_spots.ensures.permutation (subst Q c.deref-2.ensures.value (c.in_default-first_missing.ensures.counts refl))
-    (λ h led. finds h (subst (λ (ss : List Spot). AreLed c.args.text.now h ss) (sym c.deref-3.ensures.value) led)) c.len.result
+    (λ h led. finds h (subst (λ (ss : List Spot). AreLed c.index_journals.new.text h ss) (sym c.deref-3.ensures.value) led)) c.len.result
     (omega (arith, c.len.ensures, c.deref-3.ensures.len, ap (λ (ss : List Spot). length ss) c.deref-3.ensures.value))
 
 pub returns-in-Ok-None-clause-legal : goal.returns-in-Ok-None-clause-legal
@@ -51,6 +51,6 @@ pub returns-in-Ok-Some-clause-verdict : goal.returns-in-Ok-Some-clause-verdict
 returns-in-Ok-Some-clause-verdict c =
     let Q : List Spot → Type 0 = λ ss. Counts 0 (places_of ss) in
     let finds = rw c.in-Ok-Some.field-0-is at c.in-Ok-Some.ensures.finds in
-    judged_differs c.args.config c.args.text.now _ c.in-One.start c.in-One.is _ c.sort_spots.new.spots.items c.in_ok-index.ensures.index
+    judged_differs c.args.config c.args.text.now _ _ c.in-One.start c.in-One.is _ c.sort_spots.new.spots.items c.in_ok-index.ensures.index
     c.sort_spots.ensures.permutation (subst Q c.deref-2.ensures.value (c.in_default-first_missing.ensures.counts refl)) c.in-Ok-Some.place
-    (λ h led. finds h (subst (λ (ss : List Spot). AreLed c.args.text.now h ss) (sym c.deref-3.ensures.value) led))
+    (λ h led. finds h (subst (λ (ss : List Spot). AreLed c.index_journals.new.text h ss) (sym c.deref-3.ensures.value) led))

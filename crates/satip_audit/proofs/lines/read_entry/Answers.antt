@@ -4,7 +4,7 @@ use Rattle.satip_entry_writer.proofs.InBytes.{record_in_bytes}
 use Rattle.satip_entry_reader.specs.ReadingEntries.{entry_text}
 use Rattle.satip_audit.specs.Journals.{Placed, placed}
 use Rattle.satip_audit.proofs.LineLemmas.{digits_without_end}
-use Rattle.satip_audit.proofs.EntryLemmas.{are_bytes, as_words, front_is, none_is, record_short, same_line}
+use Rattle.satip_audit.proofs.EntryLemmas.{are_bytes, as_words, fits_line, front_is, none_is, record_short, same_line}
 use Rattle.satip_audit.proofs.lines.read_entry.Goals as goal
 
 pub returns-in_default-clause-none : goal.returns-in_default-clause-none
@@ -43,9 +43,15 @@ returns-then-not-same_bytes-clause-none c = λ _ p is e.
     let count = c.in-Some-decode.ensures.finds text are (omega (arith, short, room)) words.2 in
     let front = c.in-Some-decode.ensures.bytes text are (omega (arith, short, room)) words.2 in
     let whole = front_is _ text c.in-Some-decode.count _ (omega arith) count front in
-    let q : Placed = placed c.in-Some.place c.in-Some.caller c.in-Some-read_record.event c.in-Some-read_record.answer c.read_record.new.out in
+    let q : Placed = placed c.in-Some.place c.in-Some.caller c.read_record.new.event c.in-Some-read_record.answer c.read_record.new.out in
     c.if-not-same_bytes.ensures.same
     (c.bytes.ensures.bytes ∙ c.write_entry.ensures.line ∙ same_line q p words.0 words.1 (sym c.in-Some-read_record.ensures.right ∙ whole) ∙ sym e)
+
+pub returns-clause-fits : goal.returns-clause-fits
+returns-clause-fits c =
+    let q : Placed = placed c.in-Some.place c.in-Some.caller c.read_record.new.event c.in-Some-read_record.answer c.read_record.new.out in
+    fits_line c.decode.new.room c.args.line.now q _ c.in-Some-decode.count c.in-Some-read_record.ensures.right
+    (sym c.if-not-same_bytes.ensures.same ∙ c.bytes.ensures.bytes ∙ c.write_entry.ensures.line) (omega arith) c.in-Some-decode.ensures.within
 
 pub returns-clause-within : goal.returns-clause-within
 returns-clause-within c = record {

@@ -10,8 +10,8 @@ returns-in_default-clause-none c = λ none.
 pub returns-then-not-is_end-clause-none : goal.returns-then-not-is_end-clause-none
 returns-then-not-is_end-clause-none c = λ none.
     let found : Entry = record {
-      event = c.in-Some.entry.0;
-      answer = c.in-Some.entry.1;
+      event = c.read_entry.new.event;
+      answer = c.in-Some.answer;
       reply = c.read_entry.new.out.reply;
       datagrams = c.read_entry.new.out.datagrams;
     } in

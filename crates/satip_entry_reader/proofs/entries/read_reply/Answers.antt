@@ -1,12 +1,11 @@
-use Rattle.satip_entry_reader.proofs.TakingSteps.{ran_out, reply_more}
+use Rattle.satip_entry_reader.proofs.TakingSteps.{few_bytes, reply_taken}
 use Rattle.satip_entry_reader.proofs.entries.read_reply.Goals as goal
 
 pub returns-in_default : goal.returns-in_default
-returns-in_default c = record {
-  read = ran_out c.reply.place c.args.count c.args.bytes.now c.reply.bytes c.in_default.ensures.read c.reply.invariant.rest c.reply-test.true;
-}
+returns-in_default c = record { read = few_bytes c.args.count c.args.bytes.now c.in_default.ensures.read }
 
-pub reply-preserved : goal.reply-preserved
-reply-preserved c =
-    reply_more c.reply.place c.in-Some.byte c.args.bytes.now c.reply.bytes c.read_u8.new.self c.in-Some.ensures.front c.write.ensures.wrote
-    c.reply.invariant
+pub returns : goal.returns
+returns c = record {
+  read =
+      reply_taken c.args.count c.args.bytes.now c.in-Some.reply.now c.read_bytes.new.self c.in-Some.ensures.read c.write.ensures.wrote;
+}

@@ -1,6 +1,6 @@
 use Rattle.satip_audit.proofs.ReplayLemmas.{Runs}
-use Rattle.satip_audit.proofs.judging.replay_lines.Given as goal
+use Rattle.satip_audit.proofs.judging.replay_records.Given as goal
 
 -- the entries before a place are what the server does
 abbrev pub invariant-places : goal.invariant-places
-invariant-places l = Runs l.text l.spots l.initial.server l.place l.server
+invariant-places l = Runs l.records l.spots l.initial.server l.place l.server

@@ -1,7 +1,0 @@
-use Rattle.satip_audit.proofs.ReplayLemmas.{runs_more}
-use Rattle.satip_audit.proofs.judging.replay_lines.Goals as goal
-
-pub places-preserved : goal.places-preserved
-places-preserved c =
-    runs_more c.args.text.now c.line_at-line.result.now c.args.spots.now _ c.args.server.now c.places.server c.does_so.new.server c.places.place
-    c.places-test.true c.line_at-line.ensures.line c.places.invariant c.does_so.ensures.setting c.if-not-does_so.ensures.does
