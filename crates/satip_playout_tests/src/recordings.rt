@@ -334,6 +334,18 @@ fn mixed_file(rt: &impl Abort, host: HostRuntime) -> Scratch {
     scratch_file(rt, host, "mixed", &bytes)
 }
 
+// Takes at most as many bytes as the buffer has, and appends them.
+fn take_more(rt: &impl Abort, from: &mut RealRecording, buf: &mut [u8], bytes: &mut Vec<u8>) {
+    if buf.is_empty() {
+        return;
+    }
+    if let Taken::Got(count) = from.take(buf) {
+        if let Some(got) = buf.get(..count) {
+            bytes.extend_from_slice(got).expect(rt, "out of memory");
+        }
+    }
+}
+
 // Takes as often as this, at most `size` bytes at once; returns all bytes.
 fn take_all(
     rt: &impl Abort,
@@ -345,11 +357,7 @@ fn take_all(
     let mut bytes = Vec::new(alloc);
     let mut buf = vec![in alloc; 0; size].expect(rt, "out of memory");
     for _ in 0..times {
-        if let Taken::Got(count) = from.take(&mut buf) {
-            bytes
-                .extend_from_slice(&buf[..count])
-                .expect(rt, "out of memory");
-        }
+        take_more(rt, from, &mut buf, &mut bytes);
     }
     bytes
 }
@@ -357,7 +365,13 @@ fn take_all(
 #[test]
 fn a_repeated_recording_has_its_packets_alone(rt: HostRuntime) {
     let file = mixed_file(&rt, rt);
-    for (size, times) in [(1, 60_000), (100, 700), (188, 310), (1000, 130), (12_032, 130)] {
+    for (size, times) in [
+        (1, 60_000),
+        (100, 700),
+        (188, 310),
+        (1000, 130),
+        (12_032, 130),
+    ] {
         let mut from = begin(&rt, &mut store(&rt, rt, &file, playing(true)));
         let bytes = take_all(&rt, rt.alloc(), &mut from, size, times);
         assert!(rt; bytes.len() > 188 * 300, "{size}: {}", bytes.len());
@@ -383,18 +397,10 @@ fn a_recording_without_packets_ends(rt: HostRuntime) {
 
 // Takes 64 packets.
 fn take_burst(rt: &impl Abort, from: &mut RealRecording) {
-    let mut buf = [0; 12032];
-    let mut left = buf.len();
+    let mut buf = [0; 188];
     for _ in 0..64 {
-        if left == 0 {
-            return;
-        }
-        match from.take(&mut buf[..left]) {
-            Taken::Got(count) => left = left.saturating_sub(count),
-            _ => rt.panic("no packets"),
-        }
+        check(rt, "packet", from.take(&mut buf), Taken::Got(188));
     }
-    rt.panic("small pieces")
 }
 
 // Returns the milliseconds that ten bursts take: each takes 64 packets and pauses, as a pump does.
