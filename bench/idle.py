@@ -19,10 +19,10 @@ import time
 TOP = os.path.dirname(os.path.dirname(os.path.abspath(__file__)))
 sys.path.insert(0, os.path.join(TOP, "trials"))
 sys.dont_write_bytecode = True
-from lib.server import Server, busy_processors, cpu_seconds, resident_megabytes, use_program
+from lib.server import Server, cpu_seconds, resident_megabytes, words_of_bench
 
 ADDRESS = "127.0.0.1"
-SECONDS, CLIENTS, EACH = 30, 8, 5
+SECONDS, CLIENTS, EACH = 30.0, 8, 5
 # Before that the server opens its recordings and answers who asked whether it is there.
 SETTLE = 2
 SWITCHES = re.compile(r"^voluntary_ctxt_switches:\s*(\d+)", re.M)
@@ -62,10 +62,8 @@ def measure(name, fronts, clients, seconds):
 
 
 def main():
-    use_program(sys.argv[1:2])
-    seconds = float(sys.argv[2]) if len(sys.argv) > 2 else SECONDS
-    print(f"the machine kept {busy_processors():.1f} of {os.cpu_count()} processors busy\n")
-    print("| | wake-ups a second | of a processor | resident |\n|---|---|---|---|", flush=True)
+    _, seconds = words_of_bench(SECONDS)
+    print("\n| | wake-ups a second | of a processor | resident |\n|---|---|---|---|", flush=True)
     measure("no client, 1 front end", 1, 0, seconds)
     measure("no client, 16 front ends", 16, 0, seconds)
     measure(f"{CLIENTS} clients that send OPTIONS each {EACH} s, 16 front ends", 16, CLIENTS, seconds)

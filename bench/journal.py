@@ -21,7 +21,7 @@ TOP = os.path.dirname(os.path.dirname(os.path.abspath(__file__)))
 sys.path.insert(0, os.path.join(TOP, "trials"))
 sys.dont_write_bytecode = True
 from lib.rtp import PACKET, Receivers
-from lib.server import QUERY, Server, busy_processors, cpu_seconds, use_program
+from lib.server import QUERY, Server, cpu_seconds, words_of_bench
 
 ADDRESS = "127.0.0.1"
 RECEIVERS, ROUNDS = 16, 5
@@ -107,9 +107,7 @@ def measure_journals(seconds):
 
 
 def main():
-    program = use_program(sys.argv[1:2])
-    seconds = int(sys.argv[2]) if len(sys.argv) > 2 else 6
-    print(f"the machine kept {busy_processors():.1f} of {os.cpu_count()} processors busy")
+    program, seconds = words_of_bench(6)
     measure_journals(seconds)
     for mebibytes in MEBIBYTES:
         audit(program, mebibytes)

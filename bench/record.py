@@ -30,7 +30,7 @@ TOP = os.path.dirname(os.path.dirname(os.path.abspath(__file__)))
 sys.path.insert(0, os.path.join(TOP, "trials"))
 sys.dont_write_bytecode = True
 from lib.rtp import PACKET, PACKETS_A_DATAGRAM
-from lib.server import QUERY, busy_processors, use_program
+from lib.server import QUERY, words_of_bench
 
 ADDRESS = "127.0.0.1"
 BIT_RATE = 100_000_000
@@ -205,10 +205,8 @@ def measure_ffmpeg(player, count, output):
 
 
 def main():
-    program = use_program(sys.argv[1:2])
-    count = int(sys.argv[2]) if len(sys.argv) > 2 else 1_000_000
+    program, count = words_of_bench(1_000_000)
     has_ffmpeg = shutil.which("ffmpeg") is not None
-    print(f"the machine kept {busy_processors():.1f} of {os.cpu_count()} processors busy")
     with tempfile.TemporaryDirectory() as folder:
         recording, output = os.path.join(folder, "a.ts"), os.path.join(folder, "out.ts")
         (make_recording if has_ffmpeg else make_noise)(recording, count)

@@ -30,15 +30,7 @@ sys.path.insert(0, os.path.join(TOP, "trials"))
 sys.dont_write_bytecode = True
 from lib.rtp import Receivers
 from lib.rtsp import Rtsp, over_udp
-from lib.server import (
-    QUERY,
-    Server,
-    busy_processors,
-    cpu_seconds,
-    free_ports,
-    resident_megabytes,
-    use_program,
-)
+from lib.server import QUERY, Server, cpu_seconds, free_ports, resident_megabytes, words_of_bench
 
 ADDRESS = "127.0.0.1"
 RECEIVERS, ROUNDS = (1, 16, 60), 5
@@ -207,9 +199,7 @@ def make_recording(folder, seconds):
 
 
 def main():
-    use_program(sys.argv[1:2])
-    seconds = int(sys.argv[2]) if len(sys.argv) > 2 else 6
-    print(f"the machine kept {busy_processors():.1f} of {os.cpu_count()} processors busy")
+    _, seconds = words_of_bench(6)
     with tempfile.TemporaryDirectory() as folder:
         loop = os.path.join(folder, "sendto_loop")
         source = os.path.join(TOP, "bench", "sendto_loop.c")

@@ -25,15 +25,7 @@ sys.path.insert(0, os.path.join(TOP, "trials"))
 sys.dont_write_bytecode = True
 from lib.rtp import PACKET, RTP_HEADER, number_of
 from lib.rtsp import inside
-from lib.server import (
-    QUERY,
-    Server,
-    busy_processors,
-    cpu_seconds,
-    free_ports,
-    resident_megabytes,
-    use_program,
-)
+from lib.server import QUERY, Server, cpu_seconds, free_ports, resident_megabytes, words_of_bench
 
 ADDRESS = "127.0.0.1"
 CONNECTIONS, ROUNDS = (1, 8, 16), 5
@@ -153,9 +145,7 @@ def measure_rounds(server, loop, count, seconds):
 
 
 def main():
-    use_program(sys.argv[1:2])
-    seconds = int(sys.argv[2]) if len(sys.argv) > 2 else 6
-    print(f"the machine kept {busy_processors():.1f} of {os.cpu_count()} processors busy")
+    _, seconds = words_of_bench(6)
     with tempfile.TemporaryDirectory() as folder:
         loop = os.path.join(folder, "send_loop")
         source = os.path.join(TOP, "bench", "send_loop.c")

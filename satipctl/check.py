@@ -3,7 +3,7 @@
 It looks at the form of the file (with line and column), at keys that are unknown or out of their
 limits, at each recording (there, readable, transport packets, rate), at both ports, and at the
 variables of the environment that a server reads. With --wait-for-ports it waits that long for a
-server that is about to end. A warning is what a server ignores, or a viewer would miss: a server
+server that is about to end. It prints the rates of recordings. A warning is what a server ignores, or a viewer would miss: a server
 starts without a recording that can't be played.
 
 The status is 0 if nothing was found, 1 if there are warnings, 2 if a server would not start. File
@@ -44,16 +44,19 @@ def add_words(words):
 
 def run(given):
     config = configuration.read(given.config)
-    found = configuration.findings(config)
+    found, rates = configuration.findings(config), []
     # What follows needs values of the right kind.
     if all(it.is_warning for it in found):
         found += same_tunings(config) + unreached(config)
-        found += recordings(config, reader_of(given.user))
+        faults, rates = recordings(config, reader_of(given.user))
+        found += faults
         found += [] if given.no_ports else ports_within(config, given.wait_for_ports)
         found += environment()
     for finding in found:
         print(finding.told(given.config), file=sys.stderr)
     status = max((1 if it.is_warning else 2 for it in found), default=0)
+    if not given.quiet:
+        print(*rates, sep="\n", end="\n" * bool(rates))
     if status or not given.quiet:
         print(f"{given.config}: {summary(config, found, status)}")
     return 0 if status == 1 and given.allow_warnings else status
@@ -121,40 +124,38 @@ def reader_of(user):
 
 
 def recordings(config, can_read):
-    """What is wrong with the recordings, a line for each."""
-    found = []
+    """What is wrong with the recordings, and lines with the rates of the others."""
+    found, rates = [], []
     for place, mux in enumerate(config.muxes()):
-        line = config.line_of("mux", place, "file")
-        for told in recording(mux["file"], can_read):
-            text = f"recording of mux.{place + 1}, {mux['file']}: {told}"
-            found.append(Finding(line, text, is_warning=True))
-    return found
+        line, name = config.line_of("mux", place, "file"), f"mux.{place + 1}, {mux['file']}"
+        rate, fault = recording(mux["file"], can_read)
+        if fault:
+            found.append(Finding(line, f"recording of {name}: {fault}", is_warning=True))
+        else:
+            rates.append(f"{name}: {rate_text(rate)}")
+    return found, rates
 
 
 def recording(path, can_read):
-    """What is wrong with a recording."""
+    """The rate of a recording, and what is wrong with it or None."""
     try:
         mode = os.stat(path).st_mode
     except (OSError, ValueError) as error:
-        yield getattr(error, "strerror", None) or "no name of a file"
-        return
+        return None, getattr(error, "strerror", None) or "no name of a file"
     if not stat.S_ISREG(mode):
-        yield "no regular file"
-        return
+        return None, "no regular file"
     if not can_read(path):
-        yield "it can't be read by the user of a server"
-        return
+        return None, "it can't be read by the user of a server"
     try:
         head = packets.look(path)
     except OSError as error:
-        yield error.strerror
-        return
-    if head.fault:
-        yield head.fault
-    elif head.rate is None:
-        yield "no program clock references, so its own rate isn't known"
-    elif os.environ.get("SATIP_PACE") is None and not 0.9 < EVEN_PACE / head.rate < 1.1:
-        yield f"{rate_text(head.rate)}, and it plays at {rate_text(EVEN_PACE)} without SATIP_PACE"
+        return None, error.strerror
+    if head.fault or head.rate is None:
+        return None, head.fault or "no program clock references, so its own rate isn't known"
+    if os.environ.get("SATIP_PACE") is None and not 0.9 < EVEN_PACE / head.rate < 1.1:
+        told = f"{rate_text(head.rate)}, and it plays at {rate_text(EVEN_PACE)} without SATIP_PACE"
+        return head.rate, told
+    return head.rate, None
 
 
 def ports_within(config, seconds):

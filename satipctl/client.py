@@ -1,4 +1,5 @@
-"""A client of a running server, for `probe`, `wait`, `status` and `hold`: RTSP, and RTP over UDP."""
+"""A client of a running server: RTSP, and RTP over UDP. For `probe`, `wait`, `status` and `hold`, and
+for the trials (trials/lib/rtsp.py)."""
 
 import re
 import socket
@@ -9,7 +10,8 @@ from . import configuration
 RTSP_PORT = 554
 BLANK = b"\r\n\r\n"
 LENGTH = re.compile(rb"Content-Length: *(\d+)", re.I)
-PIECE = 65536
+# What one call receives at most: a burst of frames, or a reply, whose smaller buffer costs less.
+FRAMES, REPLY = 262144, 16384
 
 
 class Refused(ConnectionError):
@@ -38,19 +40,22 @@ def over_udp(port):
     return f"Transport: RTP/AVP;unicast;client_port={port}-{port + 1}"
 
 
-def inside():
-    """The Transport header of a client that takes RTP inside its RTSP connection."""
-    return "Transport: RTP/AVP/TCP;unicast;interleaved=0-1"
+def inside(channel=0):
+    """The Transport header of a client that takes RTP inside its RTSP connection, on a channel, and
+    RTCP on the next one."""
+    return f"Transport: RTP/AVP/TCP;unicast;interleaved={channel}-{channel + 1}"
 
 
 class Rtsp:
     """One connection, on which requests are sent one after another.
 
-    Frames between replies go to `take_frame`, with their channel and their bytes.
+    Frames between replies go to `take_frame`, with their channel and their bytes. It connects from
+    the address `source`, if it is given.
     """
 
-    def __init__(self, address, port=RTSP_PORT, timeout=5, take_frame=None):
-        self.line = socket.create_connection((address, port), timeout)
+    def __init__(self, address, port=RTSP_PORT, timeout=5, take_frame=None, source=""):
+        own = (source, 0) if source else None
+        self.line = socket.create_connection((address, port), timeout, source_address=own)
         self.take_frame = take_frame or (lambda channel, data: None)
         self.base = f"rtsp://{address}:{port}/"
         self.count, self.buffer = 0, b""
@@ -59,6 +64,9 @@ class Rtsp:
         return self
 
     def __exit__(self, *_):
+        self.close()
+
+    def close(self):
         self.line.close()
 
     def ask(self, method, target, *headers):
@@ -67,12 +75,12 @@ class Rtsp:
         first = f"{method} {target} RTSP/1.0\r\nCSeq: {self.count}"
         self.line.sendall("\r\n".join((first, *headers, "\r\n")).encode())
         while (reply := self.cut_reply()) is None:
-            self.receive()
+            self.receive(REPLY)
         return reply
 
-    def receive(self):
+    def receive(self, most=FRAMES):
         """Reads what has come."""
-        piece = self.line.recv(PIECE)
+        piece = self.line.recv(most)
         if not piece:
             raise ConnectionError("the server ended the connection")
         self.buffer += piece
@@ -93,14 +101,21 @@ class Rtsp:
             raise Refused("SETUP: no session or no stream in the reply")
         return f"{self.base}stream={stream.group(1)}", session.group(1)
 
+    def cut_frame(self):
+        """Takes the channel and the bytes of a whole frame from the front of the buffer, or returns None."""
+        if len(self.buffer) < 4 or not self.buffer.startswith(b"$"):
+            return None
+        end = 4 + int.from_bytes(self.buffer[2:4], "big")
+        if len(self.buffer) < end:
+            return None
+        frame = self.buffer[1], self.buffer[4:end]
+        self.buffer = self.buffer[end:]
+        return frame
+
     def cut_reply(self):
-        """Takes the next whole reply from the buffer, or returns None."""
-        while self.buffer.startswith(b"$") and len(self.buffer) >= 4:
-            end = 4 + int.from_bytes(self.buffer[2:4], "big")
-            if len(self.buffer) < end:
-                return None
-            self.take_frame(self.buffer[1], self.buffer[4:end])
-            self.buffer = self.buffer[end:]
+        """Takes the frames before the next reply, and the reply if it is whole, else returns None."""
+        while frame := self.cut_frame():
+            self.take_frame(*frame)
         if self.buffer.startswith(b"$") or BLANK not in self.buffer:
             return None
         end = self.buffer.index(BLANK) + len(BLANK)

@@ -58,8 +58,8 @@ class Collector:
             return
         yield self.gauge("up", "Whether there is a server.", 1)
         yield self.gauge("connections", "Connections that are open.", len(status.connections))
-        if status.version is not None:
-            yield from self.totals(status)
+        if status.totals is not None:
+            yield from self.of_server(status, status.totals)
         yield from self.of_connections(status)
         yield from self.of_destinations(status)
         yield from self.of_front_ends(status)
@@ -71,14 +71,20 @@ class Collector:
     def counter(self, name, told, value=None, labels=None):
         return self.core.CounterMetricFamily(f"satip_{name}", told, value=value, labels=labels)
 
-    def totals(self, status):
+    def of_server(self, status, totals):
+        """What the server counts of all clients, also of those that left."""
         info = self.core.InfoMetricFamily("satip", "The program.")
         info.add_metric((), {"version": status.version})
         yield info
         yield self.gauge("uptime_seconds", "Seconds since the start.", status.uptime)
-        yield self.counter("connections_accepted", "Connections that were accepted.", status.taken)
-        yield self.by_cause("connections_refused", "Connections that were refused.", status.refused)
-        yield self.counter("lines", "Lines on standard error.", status.lines)
+        yield self.counter("connections_accepted", "Connections that were accepted.", totals.taken)
+        yield self.by_cause("connections_refused", "Connections that were refused.", totals.refused)
+        yield self.counter("sent_bytes", "Bytes sent over all connections.", totals.sent)
+        yield self.counter("received_bytes", "Bytes received over all connections.", totals.received)
+        yield self.counter("sent_datagrams", "Datagrams that the system took.", totals.datagrams)
+        yield self.counter("sent_datagram_bytes", "Bytes of these datagrams.", totals.bytes)
+        yield self.by_cause("lost_datagrams", "Datagrams that the system refused.", totals.lost)
+        yield self.counter("lines", "Lines on standard error.", totals.lines)
 
     def by_cause(self, name, told, counts):
         family = self.counter(name, told, labels=("cause",))
@@ -97,9 +103,9 @@ class Collector:
 
     def of_destinations(self, status):
         labels = ("destination",)
-        count = self.counter("datagrams", "Datagrams that the system took.", labels=labels)
+        count = self.counter("datagrams", "Datagrams to the last 128 destinations.", labels=labels)
         size = self.counter("datagram_bytes", "Bytes of these datagrams.", labels=labels)
-        told = "Datagrams that the system refused."
+        told = "Datagrams to these destinations that the system refused."
         refused = self.counter("datagrams_refused", told, labels=(*labels, "cause"))
         for it in status.destinations:
             if it.bytes is None:
@@ -119,7 +125,8 @@ class Collector:
             names = str(it.number), it.file or ""
             packets.add_metric(names, it.packets)
             restarts.add_metric(names, it.restarts)
-            behind.add_metric(names, it.behind)
+            if it.behind is not None:
+                behind.add_metric(names, it.behind)
         yield from (packets, restarts, behind)
 
     def of_streams(self):

@@ -105,13 +105,16 @@ def taken(paths, probe=probe):
     return recordings, whole
 
 
+def multiplex(freq, path):
+    """The entry of a recording. A JSON string is a TOML string too."""
+    return MUX.format(freq=freq, file=json.dumps(path, ensure_ascii=False))
+
+
 def config_text(address, rtsp, http, recordings):
-    """A JSON string is a TOML string too."""
     text = HEAD.format(address=json.dumps(address), rtsp=rtsp, http=http)
     text += FRONTEND * min(len(recordings), MOST_FRONTENDS)
     for place, recording in enumerate(recordings):
-        file = json.dumps(os.path.abspath(recording.path), ensure_ascii=False)
-        text += MUX.format(freq=FIRST_MHZ + STEP_MHZ * place, file=file)
+        text += multiplex(FIRST_MHZ + STEP_MHZ * place, os.path.abspath(recording.path))
     return text
 
 

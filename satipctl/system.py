@@ -58,11 +58,8 @@ def read(rtsp_port, http_port):
     found = list(connections((rtsp_port, http_port)))
     return Status(
         version=None,
-        start=None,
+        started=None,
         uptime=(asked + time.monotonic()) / 2,
-        taken=None,
-        refused={},
-        lines=None,
         connections=found,
         destinations=list(destinations(rtsp_port)),
     )

@@ -7,11 +7,10 @@ from dataclasses import asdict, dataclass
 
 from . import configuration, place, status_file, system
 from .client import Rtsp, server_of
-from .command import Fault
 
 PACKET_BITS = 188 * 8
 # A server writes its status once a second.
-PERIOD, PATIENCE = 1.0, 3.0
+PERIOD = 1.0
 SES1 = re.compile(
     r"a=control:stream=(\d+)\r\na=fmtp:33 ver=1\.0;src=(\d+);tuner=([^;]*);pids=(\S+)\r\na=(\w+)"
 )
@@ -43,7 +42,8 @@ class Viewer:
 
 @dataclass
 class Front:
-    """A front end with its rate in bit/s; `multiplex` is None if no stream is described on it."""
+    """A front end with its rate in bit/s. `multiplex` and `pids` are those of its streams, if they are
+    described, else the number of its multiplex in the configuration, and None."""
 
     number: int
     file: str | None
@@ -52,7 +52,7 @@ class Front:
     rate: float
     packets: int
     restarts: int
-    behind: float
+    behind: float | None
 
 
 def add_words(words):
@@ -92,6 +92,13 @@ def union(streams):
     if "all" in told:
         return "all"
     return ",".join(sorted(told, key=int)) or "none"
+
+
+def multiplex(front, streams):
+    """What a front end is tuned to: by its streams or, if none is described, by its configuration."""
+    if streams:
+        return streams[0].tuning
+    return None if front.mux is None else f"mux.{front.mux}"
 
 
 class Reading:
@@ -137,34 +144,30 @@ class Reading:
             packets = max(it.packets - old.get(it.number, 0), 0)
             rate = packets * PACKET_BITS / self.seconds if self.seconds > 0 else 0.0
             yield Front(
-                it.number, it.file, own[0].tuning if own else None, union(own) if own else None,
+                it.number, it.file, multiplex(it, own), union(own) if own else None,
                 rate, it.packets, it.restarts, it.behind,
             )
 
-    def lost(self):
-        """All datagrams that the system refused, by cause."""
-        counts = {}
-        for it in self.now.destinations:
-            for cause, count in it.refused.items():
-                counts[cause] = counts.get(cause, 0) + count
-        return counts
+    def sent_rate(self):
+        """What leaves to all clients in bit/s; it isn't known how much is RTP without a status file."""
+        if self.now.totals is None:
+            return sum(it.rate for it in self.viewers())
+        now, before = self.now.totals, self.before.totals
+        return self.rate(now.sent + now.bytes, before.sent + before.bytes)
 
     def to_json(self):
-        now, viewers = self.now, list(self.viewers())
+        now = self.now
         return {
             "version": now.version,
-            "start": now.start,
+            "started": now.started,
             "uptime": now.uptime,
-            "taken": now.taken,
             "open": len(now.connections),
-            "refused_connections": now.refused,
-            "refused_datagrams": self.lost(),
-            "lines": now.lines,
-            "rate": sum(it.rate for it in viewers),
+            "totals": now.totals and asdict(now.totals),
+            "rate": self.sent_rate(),
             "uncounted": self.uncounted(),
             "front_ends": [asdict(it) for it in self.fronts()],
             "streams": None if self.streams is None else [asdict(it) for it in self.streams],
-            "viewers": [asdict(it) for it in viewers],
+            "viewers": [asdict(it) for it in self.viewers()],
         }
 
 
@@ -189,13 +192,11 @@ class Watch:
         """The next reading: waits until the server has written another status."""
         if self.last.version is None:
             time.sleep(PERIOD)
-        until = time.monotonic() + PATIENCE
+        # It raises Fault if it isn't written any more.
         while (now := read(self.given)).uptime == self.last.uptime:
-            if time.monotonic() > until:
-                path = place.status_file(self.given)
-                raise Fault(f"{path}: not written for {PATIENCE:g} s; has the server ended?", 1)
             time.sleep(PERIOD / 10)
-        before = self.last if now.start == self.last.start else now
+        is_same = now.started == self.last.started and now.uptime > self.last.uptime
+        before = self.last if is_same and now.version == self.last.version else now
         self.last = now
         return Reading(before, now, describe(self.server) if self.server else None)
 
@@ -218,3 +219,7 @@ def age_text(seconds):
     minutes, rest = divmod(int(seconds), 60)
     hours, minutes = divmod(minutes, 60)
     return f"{hours}:{minutes:02}:{rest:02}"
+
+
+def behind_text(seconds):
+    return "" if seconds is None else f"{seconds:.2f} s"

@@ -25,7 +25,7 @@ import tomllib
 sys.dont_write_bytecode = True
 TOP = os.path.dirname(os.path.dirname(os.path.abspath(__file__)))
 sys.path.insert(0, TOP)
-from satipctl import channels, new_config, recordings  # noqa: E402
+from satipctl import channels, new_config, packets, recordings  # noqa: E402
 
 CARDS = [os.path.join(TOP, "examples/recordings", name) for name in ("card_1.ts", "card_2.ts")]
 CONFIG, PLAYLIST = "satip.toml", "channels.m3u"
@@ -33,8 +33,7 @@ MARK = "# Written by tools/run.sh, which writes it anew at each run.\n"
 PACKET, WATCHED = 188, 2000
 USUAL_PORTS, OTHER_PORTS = (554, 8875), (18554, 18875)
 PLAYED = {"SATIP_PACE": "recording", "SATIP_REPEAT": "1"}
-CLOCK, ROUND = 27_000_000, 300 << 33
-# A recording's rate is measured in its first bytes, and a viewer's packets are looked for there.
+# A viewer's packets are looked for in the first bytes of a recording.
 HEAD = 32 << 20
 START, PATIENCE = 10, 120
 
@@ -64,28 +63,6 @@ def head_of(path):
         return file.read(HEAD)
 
 
-def reference(packet):
-    """The clock reference of a packet in ticks of 27 MHz, or None (ISO 13818-1, 2.4.3.5)."""
-    if not packet[3] & 0x20 or packet[4] < 7 or not packet[5] & 0x10:
-        return None
-    return (int.from_bytes(packet[6:11], "big") >> 7) * 300 + ((packet[10] & 1) << 8 | packet[11])
-
-
-def rate_of(data):
-    """The rate by the clock references of the first PID that has some, 0 if fewer than two have."""
-    carrier, found = None, []
-    for at in range(0, len(data) - PACKET + 1, PACKET):
-        packet = data[at : at + PACKET]
-        ticks, pid = reference(packet), (packet[1] & 0x1F) << 8 | packet[2]
-        if ticks is not None and carrier in (None, pid):
-            carrier = pid
-            found.append((at, ticks))
-    if len(found) < 2 or found[0][1] == found[-1][1]:
-        return 0
-    (first, begun), (last, ended) = found[0], found[-1]
-    return (last - first) * 8 * CLOCK // ((ended - begun) % ROUND)
-
-
 def probe(path):
     """The recording in a file: by ffprobe, or by its packets alone if that isn't installed."""
     if shutil.which("ffprobe"):
@@ -93,14 +70,13 @@ def probe(path):
         recording.programmes = recording.programmes or [whole(path)]
         return recording
     try:
-        data = head_of(path)
+        head = packets.look(path)
     except OSError as error:
         raise recordings.NoRecording(error.strerror) from error
-    if len(data) < 3 * PACKET or data[: 3 * PACKET : PACKET] != b"GGG":
-        raise recordings.NoRecording("no packets of 188 bytes from its first byte on")
-    rate = rate_of(data)
-    seconds = os.path.getsize(path) * 8 / rate if rate else 0
-    return recordings.Recording(path, rate, seconds, [whole(path)])
+    if head.fault:
+        raise recordings.NoRecording(head.fault)
+    seconds = os.path.getsize(path) * 8 / head.rate if head.rate else 0
+    return recordings.Recording(path, head.rate or 0, seconds, [whole(path)])
 
 
 def chosen(given):

@@ -1,5 +1,5 @@
 #!/usr/bin/env python3
-"""Servers behind HAProxy are replaced one after the other by soft ends, and no reader loses a byte.
+"""Servers behind HAProxy hand their ports to new ones by soft ends alone, and no reader loses a byte.
 
     trials/drained_servers.py [--readers READERS]
 
@@ -16,20 +16,14 @@ Limit: 240 s
 """
 
 import argparse
-import mmap
-import os
-import subprocess
 import sys
-import tempfile
 import time
 
 sys.dont_write_bytecode = True
-from four_servers_behind_haproxy import BALANCER, SERVERS, Reader, Run, wait_for
+from lib.balanced import Reader, Run, balanced
 from lib.checks import Checks, seconds
-from lib.server import PORTS, TOP
 
 USED = ("satip1", "satip2")
-RECORDING_SECONDS = 120
 
 
 class Drained(Run):
@@ -40,9 +34,9 @@ class Drained(Run):
         self.old = []
 
     def start_server(self, name):
-        os.environ["SATIP_STOP"] = f"{self.folder}/{name}.{len(self.old)}.stop"
-        super().start_server(name)
-        self.servers[name].stop_file = os.environ["SATIP_STOP"]
+        stop_file = f"{self.folder}/{name}.{len(self.old)}.stop"
+        super().start_server(name, SATIP_STOP=stop_file)
+        self.servers[name].stop_file = stop_file
 
     def replace(self, name):
         """Asks a server to end, and starts a new one as soon as it gives up the ports."""
@@ -113,21 +107,8 @@ def main():
     words.add_argument("--readers", type=int, default=40)
     given = words.parse_args()
     checks = Checks()
-    with tempfile.TemporaryDirectory(prefix="satip-") as folder:
-        run = Drained(folder)
-        make = [f"{TOP}/tools/make_recording.sh", f"{folder}/a.ts", str(RECORDING_SECONDS)]
-        subprocess.run(make, check=True)
-        try:
-            for name in USED:
-                run.start_server(name)
-                wait_for(SERVERS[name], PORTS[0], run.servers[name])
-            run.start_balancer()
-            wait_for(*BALANCER, run.balancer)
-            with open(f"{folder}/a.ts", "rb") as file:
-                recording = mmap.mmap(file.fileno(), 0, access=mmap.ACCESS_READ)
-            try_it(run, recording, given.readers, checks)
-        finally:
-            run.stop()
+    with balanced(Drained, USED) as (run, recording):
+        try_it(run, recording, given.readers, checks)
     checks.end()
 
 

@@ -142,8 +142,9 @@ def check_missing(checks, clone):
     for name, words, how, wanted in cases:
         check_case(checks, name, clone.run(*words, **how), wanted)
     os.remove(os.path.join(out, "satip.sources"))
-    for name, package in (("git", "git"), ("find", "findutils")):
-        check_case(checks, name, clone.run("--check", path=clone.path(name)), f"apt-get install {package}")
+    for package, *names in (("git", "git"), ("findutils", "find"), ("mawk", "awk", "mawk", "gawk")):
+        ran = clone.run("--check", path=clone.path(*names))
+        check_case(checks, names[0], ran, f"apt-get install {package}")
     with open(os.path.join(clone.work, "satip.toml"), "w", encoding="ascii") as file:
         file.write("# somebody's\n")
     check_case(checks, "room for satip.toml", clone.run("--check"), "satip.toml")

@@ -24,6 +24,7 @@ import subprocess
 import sys
 import tempfile
 import threading
+import time
 import unittest
 
 sys.dont_write_bytecode = True
@@ -33,6 +34,8 @@ from lib.rtp import receiver
 from lib.rtsp import over_udp
 from lib.server import QUERIES, Server, program
 from satipctl import command, configuration, packets, status_file, watch
+from satipctl.status import Lossy
+from satipctl.status import text as text_of
 
 GOOD = """\
 address = "127.0.0.1"
@@ -191,7 +194,8 @@ class Check(InAFolder):
     def test_a_good_one(self):
         status, out, errors = self.check(GOOD, "--no-ports")
         self.assertEqual((status, errors), (0, ""))
-        self.assertEqual(out, "satip.toml: well; front ends 1, multiplexes 2\n")
+        rates = "mux.1, a.ts: 8.00 Mbit/s\nmux.2, b.ts: 8.00 Mbit/s\n"
+        self.assertEqual(out, f"{rates}satip.toml: well; front ends 1, multiplexes 2\n")
 
     def test_toml_faults_have_line_and_column(self):
         status, _, errors = self.check(GOOD.replace("workers = 8", "workers = "))
@@ -316,44 +320,53 @@ class SchemaAndProgram(InAFolder):
             self.assertEqual(file.readline(), "#:schema satip.schema.json\n")
 
 
+def refused(**counts):
+    """Datagrams by each cause for which the system refuses one."""
+    return {"unheard": 0, "no_route": 0, "not_permitted": 0, "no_room": 0, "other": 0, **counts}
+
+
+def client_json(host, port, **more):
+    return {"address": f"192.168.1.{host}", "port": port, **more}
+
+
 def status_json(second):
     """A status file after some seconds of two viewers by RTP, of which one refuses, and one by HTTP."""
+    by_http = {"kind": "http", "age_s": 3661.5, "sent": 500_000 * second, "received": 120}
+    by_rtp = {"datagrams": 450 * second, "bytes": 600_000 * second, "refused": refused(no_room=2)}
+    reports = {"datagrams": 5 * second, "bytes": 300 * second, "refused": refused()}
+    closed = {"datagrams": 5, "bytes": 300, "refused": refused(unheard=4 * second)}
+    left = {"datagrams": 70, "bytes": 90_000, "refused": refused()}
+    plays = {"mux": 2, "recording": "news.ts", "packets": 3200 * second, "restarts": 1, "behind_ms": 250.0}
+    idle = {"mux": None, "recording": None, "packets": 0, "restarts": 0, "behind_ms": None}
     return {
         "version": "0.2.0",
-        "start": "2026-12-02T03:30:00Z",
-        "uptime": float(second),
-        "connections": {"open": 2, "taken": 7, "refused": {"silent": 0, "descriptors": 1}},
-        "lines": 3,
-        "clients": [
-            {"address": "192.168.1.20:40000", "kind": "rtsp", "age": 9.5, "sent": 900, "received": 700},
-            {
-                "address": "192.168.1.21:40001",
-                "kind": "http",
-                "age": 3661.5,
-                "sent": 500_000 * second,
-                "received": 120,
-            },
-        ],
+        "started": "2026-12-02T03:30:00Z",
+        "written": "2026-12-02T03:30:12Z",
+        "uptime_s": float(second),
+        "lines": {"told": 3},
+        "connections": {
+            "open": 2,
+            "taken": 7,
+            "refused": {"descriptors": 1, "watch": 0, "other": 0},
+            "sent": 500_000 * second + 900,
+            "received": 820,
+            "list": [
+                client_json(20, 40000, kind="rtsp", age_s=9.5, sent=900, received=700),
+                client_json(21, 40001, **by_http),
+            ],
+        },
+        "datagrams": {
+            "sent": 455 * second + 75,
+            "bytes": 600_300 * second + 90_300,
+            "refused": refused(unheard=4 * second, no_room=2),
+        },
         "destinations": [
-            {
-                "address": "192.168.1.20:1400",
-                "datagrams": 450 * second,
-                "bytes": 600_000 * second,
-                "refused": {"unheard": 0, "no room": 2},
-            },
-            {"address": "192.168.1.20:1401", "datagrams": 5 * second, "bytes": 300 * second, "refused": {}},
-            {
-                "address": "192.168.1.22:1500",
-                "datagrams": 5,
-                "bytes": 300,
-                "refused": {"unheard": 4 * second},
-            },
-            {"address": "192.168.1.23:1600", "datagrams": 70, "bytes": 90_000, "refused": {}},
+            client_json(20, 1400, **by_rtp),
+            client_json(20, 1401, **reports),
+            client_json(22, 1500, **closed),
+            client_json(23, 1600, **left),
         ],
-        "front_ends": [
-            {"number": 1, "recording": "news.ts", "packets": 3200 * second, "restarts": 1, "behind": 0.25},
-            {"number": 2, "recording": None, "packets": 0, "restarts": 0, "behind": 0.0},
-        ],
+        "front_ends": [{"number": 1, **plays}, {"number": 2, **idle}],
     }
 
 
@@ -399,36 +412,50 @@ class Watched(InAFolder):
                 "192.168.1.21:40001": ("HTTP", 4_000_000, 0),
             },
         )
-        self.assertEqual(told["rate"], 8_800_000)
-        self.assertEqual(told["refused_datagrams"], {"unheard": 48, "no room": 2})
-        front = told["front_ends"][0]
-        self.assertEqual((front["file"], front["rate"], front["restarts"]), ("news.ts", 4_812_800, 1))
+        # 500,000 by HTTP, 600,000 by RTP and 300 of its reports, each second.
+        self.assertEqual(told["rate"], 8_802_400)
+        self.assertEqual((told["open"], told["totals"]["taken"]), (2, 7))
+        self.assertEqual(told["totals"]["lost"], refused(unheard=48, no_room=2))
+        plays, idle = told["front_ends"]
+        self.assertEqual((plays["file"], plays["rate"], plays["behind"]), ("news.ts", 4_812_800, 0.25))
+        self.assertEqual((plays["multiplex"], plays["restarts"]), ("mux.2", 1))
+        self.assertEqual((idle["file"], idle["multiplex"], idle["behind"]), (None, None, None))
 
     def test_text(self):
         status, out, _ = self.run_while_written("status")
         self.assertEqual(status, 0)
         for line in (
             r"satip 0\.2\.0, up 0:00:12, since 2026-12-02T03:30:00Z",
-            r"sends 8\.80 Mbit/s; .*, refused: descriptors 1; datagrams refused: unheard 48, no room 2",
-            r"1 +news\.ts +4\.81 Mbit/s +1 +0\.25 s",
+            r"sends 8\.80 Mbit/s; sent 13\.3 MB",
+            r"connections: open 2, taken 7, refused: descriptors 1\n",
+            r"datagrams: sent 5535, refused: unheard 48, no room 2\n",
+            r"1 +mux\.2 +news\.ts +4\.81 Mbit/s +1 +0\.25 s",
+            r"2 +idle +0\.0 kbit/s +0\n",
             r"192\.168\.1\.21:40001 +HTTP +1:01:01 +4\.00 Mbit/s +6\.0 MB",
             r"192\.168\.1\.22:1500 +RTP +0\.0 kbit/s +300 B +48",
         ):
             self.assertRegex(out, line)
 
+    def test_lines_on_lost_datagrams_are_red(self):
+        told = watch.Reading(*(status_file.from_json(status_json(it)) for it in (10, 12)), None)
+        lossy = [line.split()[0] for line in text_of(told) if isinstance(line, Lossy)]
+        self.assertEqual(lossy, ["datagrams:", "192.168.1.20:1400", "192.168.1.22:1500"])
+
     def test_a_server_that_began_again_has_no_rates_of_the_old_one(self):
         before, now = (status_file.from_json(status_json(it)) for it in (10, 2))
-        now.start = "2026-12-02T04:00:00Z"
+        now.started = "2026-12-02T04:00:00Z"
         given = argparse.Namespace(status_file=self.path("status"), config="", no_describe=True)
         seen = watch.Watch(given)
         seen.last = before
-        self.write(json.dumps(status_json(2) | {"start": now.start}), "status")
+        self.write(json.dumps(status_json(2) | {"started": now.started}), "status")
         self.assertEqual(seen.next().to_json()["rate"], 0)
 
     def test_a_file_that_is_not_written_any_more(self):
+        os.utime(self.path("status"), (0, time.time() - 60))
         status, _, errors = self.run_words("status", *self.words)
         self.assertEqual(status, 1)
-        self.assertIn("not written for 3 s", errors)
+        self.assertIn("not written for 60 s", errors)
+        self.assertIn("satip_up 0.0\n", self.run_words("metrics", *self.words)[1])
 
     def test_no_file_and_a_strange_one(self):
         self.write("{}", "status")
@@ -463,6 +490,11 @@ class Watched(InAFolder):
             'satip_datagram_bytes_total{destination="192.168.1.20:1400"} 6e+06',
             'satip_datagrams_refused_total{cause="unheard",destination="192.168.1.22:1500"} 40.0',
             'satip_front_end_packets_total{front_end="1",recording="news.ts"} 32000.0',
+            'satip_front_end_behind_seconds{front_end="1",recording="news.ts"} 0.25',
+            'satip_lost_datagrams_total{cause="unheard"} 40.0',
+            'satip_sent_datagram_bytes_total 6.0933e+06',
+            'satip_connections_refused_total{cause="descriptors"} 1.0',
+            "satip_connections_accepted_total 7.0",
             'satip_connection_sent_bytes_total{client="192.168.1.21:40001",kind="http"} 5e+06',
         ):
             self.assertIn(line, out.splitlines())
@@ -482,11 +514,12 @@ class Watched(InAFolder):
             self.assertGreater(len(used), 4)
 
     def test_alerts(self):
+        alerts = os.path.join(TOP, "examples", "alerts.yml")
         with open(os.path.join(TOP, "trials", "lib", "alerts_test.yml"), encoding="utf-8") as file:
-            text = file.read().replace("ALERTS", os.path.join(TOP, "examples", "alerts.yml"))
-        words = ["promtool", "test", "rules", self.write(text, "alerts_test.yml")]
-        ran = subprocess.run(words, capture_output=True, text=True, check=False)
-        self.assertEqual(ran.returncode, 0, ran.stdout + ran.stderr)
+            tests = self.write(file.read().replace("ALERTS", alerts), "alerts_test.yml")
+        for words in (("check", "rules", alerts), ("test", "rules", tests)):
+            ran = subprocess.run(["promtool", *words], capture_output=True, text=True, check=False)
+            self.assertEqual(ran.returncode, 0, ran.stdout + ran.stderr)
 
 
 class Stop(InAFolder):

@@ -1,5 +1,5 @@
 #!/usr/bin/env python3
-"""Four servers behind HAProxy are ended softly and started again one after another, and no viewer loses a byte.
+"""Four servers are drained by HAProxy's socket, ended softly and started again, and no viewer loses a byte.
 
     trials/servers_drained_behind_haproxy.py [--readers 80]
 
@@ -20,26 +20,15 @@ Limit: 180 s
 """
 
 import argparse
-import mmap
 import os
 import random
-import resource
-import subprocess
 import sys
-import tempfile
 import time
 
 sys.dont_write_bytecode = True
-from four_servers_behind_haproxy import (
-    BALANCER,
-    RECORDING_SECONDS,
-    SERVERS,
-    Reader,
-    Run,
-    ask_socket,
-)
+from lib.balanced import SERVERS, Reader, Run, ask_socket, balanced
 from lib.checks import Checks
-from lib.server import PORTS, TOP, configuration, program, wait_for
+from lib.server import PORTS, wait_for
 
 SHORTEST, LONGEST = 4, 8
 # A server ends with its last reader, and a connection's end takes it up to 500 ms.
@@ -74,12 +63,7 @@ class SoftRun(Run):
         return os.path.join(self.folder, f"{name}.stop")
 
     def start_server(self, name):
-        with open(f"{self.folder}/{name}.toml", "w", encoding="ascii") as file:
-            file.write(configuration(SERVERS[name], workers=64))
-        environment = {**os.environ, "SATIP_STOP": self.stop_file(name), "SATIP_REPEAT": "1"}
-        words = [program(), "serve", f"{name}.toml", "0"]
-        quiet = {"stderr": subprocess.DEVNULL}
-        self.servers[name] = subprocess.Popen(words, cwd=self.folder, env=environment, **quiet)
+        super().start_server(name, SATIP_STOP=self.stop_file(name), SATIP_REPEAT="1")
 
     def set_state(self, name, state):
         ask_socket(self.folder, f"set server satip/{name} state {state}")
@@ -133,25 +117,10 @@ def main():
     words = argparse.ArgumentParser(description="Drains servers behind HAProxy, one after another.")
     words.add_argument("--readers", type=int, default=80)
     given = words.parse_args()
-    most = resource.getrlimit(resource.RLIMIT_NOFILE)[1]
-    resource.setrlimit(resource.RLIMIT_NOFILE, (min(most, 65536), most))
     checks, draw = Checks(), random.Random(1)
-    with tempfile.TemporaryDirectory(prefix="satip-") as folder:
-        run = SoftRun(folder)
-        make = [f"{TOP}/tools/make_recording.sh", f"{folder}/a.ts", str(RECORDING_SECONDS)]
-        subprocess.run(make, check=True)
-        try:
-            for name, address in SERVERS.items():
-                run.start_server(name)
-                wait_for(address, PORTS[0], run.servers[name])
-            run.start_balancer()
-            wait_for(*BALANCER, run.balancer)
-            with open(f"{folder}/a.ts", "rb") as file:
-                recording = mmap.mmap(file.fileno(), 0, access=mmap.ACCESS_READ)
-            run.readers = [Visitor(recording, draw) for _ in range(given.readers)]
-            try_it(checks, run)
-        finally:
-            run.stop()
+    with balanced(SoftRun) as (run, recording):
+        run.readers = [Visitor(recording, draw) for _ in range(given.readers)]
+        try_it(checks, run)
     checks.end()
 
 

@@ -78,8 +78,8 @@ class Reader(threading.Thread):
         if self.drips:
             self.over.set()
             dripper.join()
-            while self.client.read_part() is None:
-                pass
+            while self.client.cut_reply() is None:
+                self.client.receive()
         if not self.stops_after:
             self.client.tear_down(self.target, self.session)
             self.keep(self.client.frames)

@@ -20,7 +20,6 @@ Limit: 600 s
 
 import os
 import shutil
-import subprocess
 import sys
 import tempfile
 import time
@@ -28,29 +27,12 @@ import time
 sys.dont_write_bytecode = True
 from lib.checks import Checks, seconds
 from lib.rtp import numbered
-from lib.server import QUERY, configuration
-from lib.system import System, cgroup_mount, make_package, make_system
+from lib.server import configuration
+from lib.system import System, Viewer, cgroup_mount, make_package, make_system
 
 PORTS = 554, 8875
 # Packets of a recording that is played for longer than a viewer stays.
 LONG = 40000
-# Reads a stream for some seconds, and prints whether each packet follows the one before, and how many.
-VIEWER = f"""
-import socket, sys, time
-line = socket.create_connection(("127.0.0.1", {PORTS[1]}), 5)
-line.sendall(b"GET /?{QUERY}&pids=all HTTP/1.1\\r\\nHost: satip\\r\\n\\r\\n")
-data, until = b"", time.monotonic() + float(sys.argv[1])
-while time.monotonic() < until:
-    piece = line.recv(65536)
-    if not piece:
-        break
-    data += piece
-data = data.partition(b"\\r\\n\\r\\n")[2]
-size = int(sys.argv[2])
-numbers = [int.from_bytes(data[at + 4 : at + 12], "big") for at in range(0, len(data) - 187, 188)]
-whole = all((a + 1) % size == b for a, b in zip(numbers, numbers[1:]))
-print("whole" if whole else "broken", len(numbers), "end" if time.monotonic() < until else "stays")
-"""
 
 
 class Trial:
@@ -66,8 +48,7 @@ class Trial:
         return ran.returncode == 0, time.monotonic() - begun
 
     def viewer(self, length, size=LONG):
-        words = self.system.words_of_client(VIEWER, str(length), str(size))
-        return subprocess.Popen(words, stdout=subprocess.PIPE, text=True)
+        return Viewer(self.system, PORTS[1], length, size)
 
     def stays(self, unit, state, length=4):
         """Whether a unit comes to a state, and is in it for some seconds."""
@@ -93,9 +74,9 @@ class Trial:
         state = self.system.service("ActiveState", "satip@old")
         self.check(state == "deactivating", f"satip@old is {state}")
         new = self.viewer(3)
-        told, also = new.communicate()[0].split(), old.communicate()[0].split()
-        self.check(told[:1] == ["whole"] and told[2:] == ["stays"], f"a new viewer is served: {told}")
-        whole = also[:1] == ["whole"] and also[2:] == ["stays"] and int(also[1]) > 30000
+        told, also = new.ends(), old.ends()
+        self.check(told.is_served(), f"a new viewer is served: {told}")
+        whole = also.is_served() and also.count > 30000
         self.check(whole, f"the old viewer misses nothing in 12 s: {also}")
         took = self.system.wait_until(
             lambda: self.system.service("ActiveState", "satip@old") == "inactive"
@@ -136,11 +117,10 @@ class Trial:
         viewer, pid = self.viewer(8), self.system.service("MainPID", "satip@new")
         time.sleep(1)
         ran = self.system.inside("dpkg", "-i", f"/root/{package}")
-        told = viewer.communicate()[0].split()
+        told = viewer.ends()
         same = ran.returncode == 0 and self.system.service("MainPID", "satip@new") == pid
         self.check(same and "serves on until" in ran.stdout, "an upgrade restarts nothing, and says so")
-        whole = told[:1] == ["whole"] and told[2:] == ["stays"]
-        self.check(whole, f"a viewer misses nothing of it: {told}")
+        self.check(told.is_served(), f"a viewer misses nothing of it: {told}")
 
     def recording(self):
         """A recording of other packets takes the name of the one that plays."""
@@ -149,17 +129,17 @@ class Trial:
         with open(f"{self.root}/srv/b.ts", "wb") as file:
             file.write(numbered(100))
         os.rename(f"{self.root}/srv/b.ts", f"{self.root}/srv/a.ts")
-        told = viewer.communicate()[0].split()
-        self.check(told[:1] == ["whole"], f"who watches sees the old recording: {told}")
+        told = viewer.ends()
+        self.check(told.is_whole, f"who watches sees the old recording: {told}")
         time.sleep(1)
-        told = self.viewer(3, size=100).communicate()[0].split()
-        self.check(told[:1] == ["whole"], f"the next tuning plays the new one: {told}")
+        told = self.viewer(3, size=100).ends()
+        self.check(told.is_whole, f"the next tuning plays the new one: {told}")
 
     def journal(self):
         folder = "/var/lib/satip-book"
         well, _ = self.start("satip@book")
         self.check(well, "an instance with SATIP_COMMAND=journal is started")
-        told = self.viewer(3, size=100).communicate()[0].split()
+        told = self.viewer(3, size=100).ends()
         ran = self.system.inside("systemctl", "stop", "satip@book")
         status = self.system.service("ExecMainStatus", "satip@book")
         self.check(ran.returncode == 0 and status == "0", f"it ends with status {status} after {told}")

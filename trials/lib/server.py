@@ -16,6 +16,7 @@ import tempfile
 import time
 
 from .rtsp import Rtsp, options
+from satipctl.new_config import multiplex
 
 FREQUENCIES = ("11361.75", "11422.75", "11464.25", "11494.25")
 QUERIES = [f"src=1&freq={freq}&pol=h&msys=dvbs2&sr=22000" for freq in FREQUENCIES]
@@ -32,15 +33,6 @@ FRONT_END = """\
 sources = [1]
 systems = ["dvbs", "dvbs2"]
 """
-MULTIPLEX = """\
-[[mux]]
-src = 1
-freq = "{freq}"
-pol = "h"
-msys = "dvbs2"
-sr = 22000
-file = "{file}"
-"""
 
 
 # A trial that is ended leaves no server, folder or namespace.
@@ -53,7 +45,7 @@ def configuration(address, ports=PORTS, workers=8, timeout=60, fronts=1, files=(
         f'address = "{address}"\nrtsp_port = {ports[0]}\nhttp_port = {ports[1]}\n'
         f"timeout = {timeout}\nworkers = {workers}\n"
     )
-    muxes = [MULTIPLEX.format(freq=freq, file=file) for freq, file in zip(FREQUENCIES, files)]
+    muxes = [multiplex(freq, file) for freq, file in zip(FREQUENCIES, files)]
     return head + FRONT_END * fronts + "".join(muxes)
 
 
@@ -134,6 +126,13 @@ def busy_processors(seconds=2):
     before = spent()
     time.sleep(seconds)
     return (spent() - before) / seconds / os.sysconf("SC_CLK_TCK")
+
+
+def words_of_bench(usual):
+    """The program and the number that a script of bench/ was given; says how busy the machine is."""
+    program_path = use_program(sys.argv[1:2])
+    print(f"the machine kept {busy_processors():.1f} of {os.cpu_count()} processors busy", flush=True)
+    return program_path, type(usual)(sys.argv[2]) if len(sys.argv) > 2 else usual
 
 
 def resident_megabytes(pid):

@@ -8,14 +8,35 @@ import os
 import subprocess
 import sys
 import time
+from typing import NamedTuple
 
 from .checks import missing
-from .server import LIB, TOP, program
+from .server import LIB, QUERY, TOP, program
 
 SUITE, MIRROR = "bookworm", "http://deb.debian.org/debian"
 PARTS = "systemd,systemd-sysv,dbus,init-system-helpers"
-# What the package depends on.
-PARTS += ",python3,python3-jsonschema,python3-prometheus-client,python3-rich"
+# What the package depends on, and iproute2, which it recommends.
+PARTS += ",python3,python3-jsonschema,python3-prometheus-client,python3-rich,iproute2"
+
+
+# Reads a stream for some seconds, and prints whether each packet follows the one before, how many
+# there were, and whether it left by itself and not by the end of the connection.
+VIEWER = f"""
+import socket, sys, time
+line = socket.create_connection(("127.0.0.1", int(sys.argv[1])), 5)
+line.sendall(b"GET /?{QUERY}&pids=all HTTP/1.1\\r\\nHost: satip\\r\\n\\r\\n")
+data, until = b"", time.monotonic() + float(sys.argv[2])
+while time.monotonic() < until:
+    piece = line.recv(65536)
+    if not piece:
+        break
+    data += piece
+data = data.partition(b"\\r\\n\\r\\n")[2]
+size = int(sys.argv[3])
+numbers = [int.from_bytes(data[at + 4 : at + 12], "big") for at in range(0, len(data) - 187, 188)]
+whole = all((a + 1) % size == b for a, b in zip(numbers, numbers[1:]))
+print(whole and bool(numbers), len(numbers), time.monotonic() >= until)
+"""
 
 
 def run(*words, **more):
@@ -103,6 +124,32 @@ class System:
             os.rmdir(folder)
 
 
+class Seen(NamedTuple):
+    """What a viewer saw: whether its packets followed each other, how many, and whether it left by
+    itself and not by the server's end."""
+
+    is_whole: bool
+    count: int
+    stays: bool
+
+    def is_served(self):
+        return self.is_whole and self.stays
+
+
+class Viewer:
+    """A client in the system's network that reads a stream over HTTP for some seconds. The recording
+    has `size` numbered packets."""
+
+    def __init__(self, system, port, length, size):
+        words = system.words_of_client(VIEWER, str(port), str(length), str(size))
+        self.process = subprocess.Popen(words, stdout=subprocess.PIPE, text=True)
+
+    def ends(self):
+        """Waits until it has seen enough; returns what it saw."""
+        whole, count, stays = (self.process.communicate()[0].split() or ["False", "0", "False"])[:3]
+        return Seen(whole == "True", int(count), stays == "True")
+
+
 def cgroup_mount():
     """Where cgroup version 2 is mounted."""
     with open("/proc/mounts", encoding="ascii") as mounts:
@@ -124,7 +171,9 @@ def make_system(folder):
     return root
 
 
-def make_package(folder):
-    """Makes the package of the built program in a folder; returns its name."""
+def make_package(folder, *commit):
+    """Makes the package of the built program in a folder, as of a commit or the last one; returns its
+    name."""
     packager = {"DEBFULLNAME": "The satip authors", "DEBEMAIL": "satip@example.org"}
-    return run(f"{TOP}/tools/make_deb.sh", program(), cwd=folder, env=packager | os.environ).stdout.strip()
+    words = f"{TOP}/tools/make_deb.sh", program(), *commit
+    return run(*words, cwd=folder, env=packager | os.environ).stdout.strip()

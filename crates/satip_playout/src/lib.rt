@@ -6,8 +6,8 @@
 
 mod lull;
 mod pacer;
-mod pieces;
 mod progress;
+mod read_ahead;
 mod recording;
 mod recording_clock;
 mod references;

@@ -20,6 +20,9 @@ const LEAST: u64 = 1_000;
 /// The most that the two clocks may be apart, in microseconds.
 const MOST: u64 = 1_000_000;
 
+// The count of pauses after a lull of which the first arrival ends one.
+const BEGINNING: u32 = 50;
+
 /// Returns the microseconds of a pause from the moment `now` to `due`, at least 1000; `None` if the
 /// two are more than a second apart.
 pub fn pause_until(due: u64, now: u64) -> Option<u64>
@@ -148,13 +151,31 @@ impl Ticks {
 struct PumpPauses<R: Wait + Drop> {
     follower: Follower,
     lull: Lull<R>,
+    // The count of the next pauses that an arrival ends.
+    beginning: u32,
 }
 
 impl<R: Wait + Drop> PumpPauses<R> {
     fn pause(&mut self, host: &HostRuntime) {
         match self.follower.length(host) {
-            Some(micros) => thread::sleep(host, Duration::from_micros(micros)),
-            None => self.lull.pause(host),
+            Some(micros) => self.rest(host, Duration::from_micros(micros)),
+            None => {
+                self.lull.pause(host);
+                self.beginning = BEGINNING;
+            }
+        }
+    }
+
+    // Pauses for this long. The first arrival after a lull ends a pause: a session for which the pump
+    // began to play, as SETUP tuned to it, may be played now.
+    fn rest(&mut self, host: &HostRuntime, length: Duration) {
+        if self.beginning == 0 {
+            thread::sleep(host, length);
+            return;
+        }
+        self.beginning -= 1;
+        if self.lull.wait(length) {
+            self.beginning = 0;
         }
     }
 }
@@ -177,7 +198,8 @@ enum Pauses<R: Wait + Drop> {
 ///
 /// If a pump has read nothing since its last pause, the pause is a lull, and the clocks are set
 /// again. A lull lasts until something arrives from a client, for up to a second. After an end of
-/// doors ten lulls last 20 ms, since the server may stop.
+/// doors ten lulls last 20 ms, since the server may stop. Of the 50 pauses after a lull the first
+/// arrival ends one.
 ///
 /// A ticker's pauses end 20 ms apart, however long a tick takes.
 ///
@@ -246,6 +268,7 @@ impl<R: Wait + Drop> RealPacer<R> {
                     pieces: 0,
                 },
                 lull: Lull::new(rt, arrivals, place),
+                beginning: 0,
             }),
         }
     }

@@ -14,7 +14,6 @@ ghost use Rattle.satip_recorder.specs.Ends.{left_of};
 ghost use Rattle.satip_tunnel_serve.specs.Serve.CommandEnds.{Serves, serve_tells, serving_left};
 ghost use Rattle.satip_tunnel_serve.specs.Serve.CommandRan.{EndsAtLimit};
 ghost use Rattle.satip_tunnel_serve.specs.Ends.{Tunnels, tunnel_left, tunnel_tells};
-ghost use Rattle.satip_tunnel_serve.specs.Silences.{no_outbox};
 ghost use Rattle.satip_program.specs.Commands.{Serve, Tunnel, Journal, asked_of, asked_offline, command_of, serving_of, config_named, recording_in};
 ghost use Rattle.satip_program.specs.Ended.{ended_alone, ended_recording, ended_view};
 ghost use Rattle.satip_program.specs.Journaling.{IsOfJournal};
@@ -157,7 +156,6 @@ pub fn satip<R: Threads + Wait + Sync, K: Desk, I: Source, O: Sink, E: Sink>(
         (streams I.feed O.drain E.drain input.new output.new errors.new)
         (ended_view K.Config.feed
         (jobs_view K.Doors.hall K.Outlet.outbox K.Store.shelf K.Clock.dial)
-        (jobs_view K.Doors.hall no_outbox K.Store.shelf K.Clock.dial)
         (left_of K.Wire.line K.Moment.dial K.Inlet.inbox)
         (journals_view K.Journal.job K.Journal.drain) result) }
 
@@ -180,7 +178,7 @@ pub fn satip<R: Threads + Wait + Sync, K: Desk, I: Source, O: Sink, E: Sink>(
     ensures tunnel_at_limit { (name : List ℕ) (accepts : ℕ)
         → serving_of words.now ≡ Some (Tunnel name accepts)
         → IfSome result.tunnel (λ last. EndsAtLimit K.Doors.by_limit
-        (jobs_view K.Doors.hall no_outbox K.Store.shelf K.Clock.dial last.jobs).workers
+        (jobs_view K.Doors.hall K.Outlet.outbox K.Store.shelf K.Clock.dial last.jobs).workers
         result.status) }
 {
     match read_service(words) {
@@ -315,10 +313,9 @@ fn run_tunnel<R: Threads + Wait + Sync, K: Desk, E: Sink>(
         accepts name.now (K.desk desk.old) (K.desk desk.new)
         (tunnel_left K.Config.feed
         (jobs_view K.Doors.hall K.Outlet.outbox K.Store.shelf K.Clock.dial)
-        (jobs_view K.Doors.hall no_outbox K.Store.shelf K.Clock.dial)
         result.config result.tunnel result.unused result.status) }
     ensures at_limit { IfSome result.tunnel (λ last. EndsAtLimit K.Doors.by_limit
-        (jobs_view K.Doors.hall no_outbox K.Store.shelf K.Clock.dial last.jobs).workers
+        (jobs_view K.Doors.hall K.Outlet.outbox K.Store.shelf K.Clock.dial last.jobs).workers
         result.status) }
     ensures handed { (K.desk desk.new).handed ≡ (K.desk desk.old).handed }
     ensures journaled { (K.desk desk.new).journaled ≡ (K.desk desk.old).journaled }
@@ -379,7 +376,6 @@ pub fn offline<K: Desk, I: Source, O: Sink, E: Sink>(
         (streams I.feed O.drain E.drain input.new output.new errors.new)
         (ended_view K.Config.feed
         (jobs_view K.Doors.hall K.Outlet.outbox K.Store.shelf K.Clock.dial)
-        (jobs_view K.Doors.hall no_outbox K.Store.shelf K.Clock.dial)
         (left_of K.Wire.line K.Moment.dial K.Inlet.inbox)
         (journals_view K.Journal.job K.Journal.drain) result) }
     ensures nothing { config_named (command_of words.now) ≡ None
@@ -446,7 +442,6 @@ pub fn offline<K: Desk, I: Source, O: Sink, E: Sink>(
 fn without_jobs<K: Desk>(alloc: Global, status: u8, config: Option<K::Config>) -> Ended<K>
     ensures ended { ended_view K.Config.feed
         (jobs_view K.Doors.hall K.Outlet.outbox K.Store.shelf K.Clock.dial)
-        (jobs_view K.Doors.hall no_outbox K.Store.shelf K.Clock.dial)
         (left_of K.Wire.line K.Moment.dial K.Inlet.inbox)
         (journals_view K.Journal.job K.Journal.drain) result
         ≡ ended_alone (option_map K.Config.feed config) status }
@@ -474,7 +469,6 @@ fn with_client<K: Desk>(
 ) -> Ended<K>
     ensures ended { ended_view K.Config.feed
         (jobs_view K.Doors.hall K.Outlet.outbox K.Store.shelf K.Clock.dial)
-        (jobs_view K.Doors.hall no_outbox K.Store.shelf K.Clock.dial)
         (left_of K.Wire.line K.Moment.dial K.Inlet.inbox)
         (journals_view K.Journal.job K.Journal.drain) result
         ≡ ended_recording (left_of K.Wire.line K.Moment.dial K.Inlet.inbox wire moment inlet)

@@ -25,10 +25,10 @@ const SERVER_WAIT_MS: u64 = 1;
 /// A TCP connection to a client, or to a server that was dialed.
 ///
 /// A receive from a client waits for bytes, and is idle if none came. It waits up to
-/// - 50 ms for an HTTP client that was sent something;
-/// - 35 ms for an RTSP client to whom frames may go; 10 ms after bytes were received, or more than
-///   131072 were sent, since the last receive; 50 ms after more than 8192 were, if none of the last
-///   32 receives came after more than 131072;
+/// - 50 ms for an HTTP client that was sent something, and 10 ms once after its request;
+/// - 35 ms for an RTSP client to whom frames may go; 10 ms in the four receives after bytes were
+///   received, or more than 131072 were sent between two; 50 ms after more than 8192 were sent, if
+///   none of the last 32 receives came after more than 131072;
 /// - a second for any other client.
 ///
 /// A byte ends each wait. A client is silent while it sends nothing and nothing is sent to it. Over

@@ -119,8 +119,16 @@ impl Listeners {
         self.stop.is_some()
     }
 
-    /// Returns whether the server was asked to end. Both listeners are closed then: what waits there
-    /// is reset, each wait for it ends, and another server can have the ports (shutdown(2)).
+    /// Closes both listeners: what waits there is reset, each wait for it ends, and another server can
+    /// have the ports (shutdown(2)).
+    pub fn shut_down(&self) {
+        if !self.closed.swap(true, Ordering::SeqCst) {
+            c::shutdown(self.rtsp.as_raw_fd(), c::SHUT_RDWR);
+            c::shutdown(self.http.as_raw_fd(), c::SHUT_RDWR);
+        }
+    }
+
+    /// Returns whether the server was asked to end. Both listeners are closed then.
     pub(crate) fn is_stopped(&self) -> bool {
         let Some(stop) = &self.stop else {
             return false;
@@ -128,10 +136,7 @@ impl Listeners {
         if !stop.is_asked() {
             return false;
         }
-        if !self.closed.swap(true, Ordering::SeqCst) {
-            c::shutdown(self.rtsp.as_raw_fd(), c::SHUT_RDWR);
-            c::shutdown(self.http.as_raw_fd(), c::SHUT_RDWR);
-        }
+        self.shut_down();
         true
     }
 
