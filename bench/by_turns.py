@@ -5,7 +5,8 @@
 
 Each sends to 1, 16 and 60 receivers on loopback, PARTS times of SECONDS each: 7 of 3 s without the
 words. Who is first changes with each part. A row has the median CPU for a million packets of each,
-and the median of OTHER by PROGRAM within a part.
+and the median of OTHER by PROGRAM within a part. To compare settings, OTHER is a script that sets a
+variable, as SATIP_STATUS, and executes PROGRAM.
 
 Needs the Debian package ffmpeg."""
 

@@ -2,7 +2,7 @@
 
 use crate::checks::check;
 use crate::sockets::{LOCALHOST, bind, local};
-use satip_base::Put;
+use satip_base::{Address, Put};
 use satip_datagrams::{RealOutlet, SharedSocket};
 use satip_world::Outlet;
 use std::net::UdpSocket;
@@ -11,17 +11,26 @@ use std::sync::atomic::{AtomicU64, Ordering};
 use std::sync::{Arc, Wait};
 use std::thread;
 
-// Sends a datagram as an event of its own. The first call does nothing, since nothing was begun.
+// Sends a datagram to a port of loopback as an event of its own.
 fn post<R: Wait + Drop>(outlet: &mut RealOutlet<R>, port: u16, bytes: &[u8]) -> Put {
+    post_to(outlet, local(port), bytes)
+}
+
+/// Sends a datagram as an event of its own. The first call does nothing, since nothing was begun.
+pub(crate) fn post_to<R: Wait + Drop>(
+    outlet: &mut RealOutlet<R>,
+    to: Address,
+    bytes: &[u8],
+) -> Put {
     outlet.unlock();
     outlet.lock();
-    let put = outlet.send(local(port), bytes);
+    let put = outlet.send(to, bytes);
     outlet.unlock();
     put
 }
 
-// Binds a socket of a client. Returns its port too.
-fn bind_client(rt: &impl Abort, host: HostRuntime) -> (UdpSocket, u16) {
+/// Binds a socket of a client. Returns its port too.
+pub(crate) fn bind_client(rt: &impl Abort, host: HostRuntime) -> (UdpSocket, u16) {
     let socket = bind(rt, host, 1, 0);
     let port = socket.local_addr().expect(rt, "address").port();
     (socket, port)

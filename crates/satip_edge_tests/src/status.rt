@@ -2,7 +2,8 @@
 
 use crate::checks::check;
 use crate::doors::{Came, next_client};
-use crate::sockets::{LOCALHOST, bind, check_heard, connect, listen, local, socket_addr};
+use crate::outlets::{bind_client, post_to};
+use crate::sockets::{LOCALHOST, check_heard, connect, listen, local, socket_addr};
 use satip_base::{Address, Put, Source, Taken, Text};
 use satip_config::Config;
 use satip_datagrams::{RealOutlet, Sent, SentCounts, SharedSocket};
@@ -11,10 +12,10 @@ use satip_fixtures::config_with;
 use satip_playout::{RealPacer, RealStore};
 use satip_real::{Carried, RealDoors};
 use satip_real_desk::{RealJobs, Settings, Told, kits_told};
-use satip_world::{Conn, ConnEnd, Doors, MuxStore, Outlet};
+use satip_world::{Conn, ConnEnd, Doors, MuxStore};
 use serde_json::Value;
 use std::io::Write;
-use std::net::{TcpStream, UdpSocket};
+use std::net::TcpStream;
 use std::process::Abort;
 use std::sync::{Arc, Wait};
 use std::thread::Threads;
@@ -170,17 +171,8 @@ fn answer_client(
 // Sends two datagrams to a port.
 fn post_two<R: Wait + Drop>(rt: &impl Abort, outlet: &mut RealOutlet<R>, port: u16) {
     for _ in 0..2 {
-        outlet.lock();
-        check(rt, "sent", outlet.send(local(port), b"abc"), Put::Whole);
-        outlet.unlock();
+        check(rt, "sent", post_to(outlet, local(port), b"abc"), Put::Whole);
     }
-}
-
-// Binds a socket of a client. Returns its port too.
-fn bind_client(rt: &impl Abort, host: HostRuntime) -> (UdpSocket, u16) {
-    let socket = bind(rt, host, 1, 0);
-    let port = socket.local_addr().expect(rt, "address").port();
-    (socket, port)
 }
 
 // Sends two datagrams to a client, and two to one that has left. Returns their ports.
@@ -308,10 +300,7 @@ fn a_server_without_its_status_file_serves(rt: HostRuntime) {
 fn post_to_many<R: Wait + Drop>(rt: &impl Abort, outlet: &mut RealOutlet<R>) {
     for port in 40_000..40_130u16 {
         let to = Address { ip: NOBODY, port };
-        outlet.lock();
-        let put = outlet.send(to, b"a");
-        outlet.unlock();
-        check(rt, "sent", put, Put::Whole);
+        check(rt, "sent", post_to(outlet, to, b"a"), Put::Whole);
     }
 }
 

@@ -70,9 +70,9 @@ impl Follower {
         let pieces = self.progress.pieces();
         let idle = pieces == self.pieces;
         self.pieces = pieces;
+        self.progress.note_idle(idle);
         if idle {
             self.anchor = None;
-            self.progress.note_late(None);
             return None;
         }
         let (Some(place), Ok(now)) = (self.progress.place(), Instant::now(rt)) else {

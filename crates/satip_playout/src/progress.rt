@@ -2,7 +2,7 @@
 //! played.
 
 use satip_host::Count;
-use std::sync::atomic::{AtomicU64, Ordering};
+use std::sync::atomic::{AtomicBool, AtomicU64, Ordering};
 
 // The value for no place.
 const NONE: u64 = u64::MAX;
@@ -26,6 +26,7 @@ pub struct Progress {
     micros: AtomicU64,
     // What the front end played, for those who watch the server.
     mux: Count,
+    idle: AtomicBool,
     bytes: Count,
     restarts: Count,
     late: Count,
@@ -55,6 +56,7 @@ impl Progress {
             run: AtomicU64::new(0),
             micros: AtomicU64::new(NONE),
             mux: Count::new(),
+            idle: AtomicBool::new(false),
             bytes: Count::new(),
             restarts: Count::new(),
             late: Count::at(NONE),
@@ -64,20 +66,39 @@ impl Progress {
     /// Returns what the front end played.
     pub fn played(&self) -> Played {
         let late = self.late.get();
+        let mux = self.playing();
         Played {
-            mux: match u16::try_from(self.mux.get()) {
-                Ok(0) | Err(_) => None,
-                Ok(mux) => Some(mux),
-            },
+            mux,
             bytes: self.bytes.get(),
             restarts: self.restarts.get(),
-            late_micros: if late == NONE { None } else { Some(late) },
+            late_micros: if mux.is_none() || late == NONE {
+                None
+            } else {
+                Some(late)
+            },
+        }
+    }
+
+    // Returns the multiplex whose recording is played now.
+    fn playing(&self) -> Option<u16> {
+        if self.idle.load(Ordering::SeqCst) {
+            return None;
+        }
+        match u16::try_from(self.mux.get()) {
+            Ok(0) | Err(_) => None,
+            Ok(mux) => Some(mux),
         }
     }
 
     /// Notes that the recording of a multiplex is played from now on.
     pub(crate) fn begin(&self, mux: u16) {
         self.mux.set(u64::from(mux));
+        self.idle.store(false, Ordering::SeqCst);
+    }
+
+    /// Notes at a pause whether nothing was read since the last one.
+    pub(crate) fn note_idle(&self, idle: bool) {
+        self.idle.store(idle, Ordering::SeqCst);
     }
 
     /// Notes that no recording is played from now on.
