@@ -3,7 +3,8 @@
 
     tools/print_crates.py           prints the page
     tools/print_crates.py --write   writes it to docs/LAYERS.md
-    tools/print_crates.py --check   compares it with docs/LAYERS.md
+    tools/print_crates.py --svg     draws the crates to docs/crates.svg (tools/draw_crates.py)
+    tools/print_crates.py --check   compares both with what is in docs/
 
 The lines of crates.txt that begin with `#` and are followed by crates are the groups. The first
 lines of `src/lib.rt` or `src/main.rt`, which begin with `//!`, are the head of a crate: what it
@@ -16,8 +17,11 @@ import re
 import sys
 import textwrap
 
+from draw_crates import picture
+
 TOP = os.path.dirname(os.path.dirname(os.path.abspath(__file__)))
 PAGE = f"{TOP}/docs/LAYERS.md"
+PICTURE = f"{TOP}/docs/crates.svg"
 WIDTH = 160
 PARTS = ("Contract", "Only tested", "Trusted")
 START = """# The crates, by group
@@ -107,6 +111,27 @@ def details(crates, heads):
             )
 
 
+def read(path):
+    """The text of a file, or nothing if it isn't there."""
+    if not os.path.exists(path):
+        return ""
+    with open(path, encoding="utf-8") as file:
+        return file.read()
+
+
+def write(path, text):
+    with open(path, "w", encoding="utf-8") as file:
+        file.write(text)
+
+
+def drawing():
+    """The text of docs/crates.svg."""
+    uses = {name: of for _, crates in read_groups(f"{TOP}/crates.txt") for name, of in crates}
+    kept = {name: highest(name, uses) for name in uses}
+    does = {name: read_head(name)["does"] for name in uses}
+    return picture(uses, kept, does, read(f"{TOP}/docs/ARCHITECTURE.md"))
+
+
 def page():
     """The lines of docs/LAYERS.md."""
     groups = read_groups(f"{TOP}/crates.txt")
@@ -130,13 +155,14 @@ def main():
     text = "\n".join(lines) + "\n"
     differs = False
     if sys.argv[1:] == ["--write"]:
-        with open(PAGE, "w", encoding="utf-8") as file:
-            file.write(text)
+        write(PAGE, text)
+    elif sys.argv[1:] == ["--svg"]:
+        write(PICTURE, drawing())
     elif sys.argv[1:] == ["--check"]:
-        with open(PAGE, encoding="utf-8") as file:
-            differs = file.read() != text
-        if differs:
-            print("docs/LAYERS.md differs: tools/print_crates.py --write", file=sys.stderr)
+        for path, wanted, option in ((PAGE, text, "--write"), (PICTURE, drawing(), "--svg")):
+            if read(path) != wanted:
+                differs = True
+                print(f"{os.path.relpath(path, TOP)} differs: tools/print_crates.py {option}", file=sys.stderr)
     else:
         print(text, end="")
     sys.exit(1 if bare or wide or differs else 0)

@@ -25,7 +25,7 @@ fn main(rt: HostRuntime) -> ExitCode {
     };
     let mut input = ReadSource::new(rt.stdin());
     let mut output = WriteSink::new(rt.stdout());
-    let mut desk = RealDesk::new(rt, rt, carried_by(&words));
+    let mut desk = RealDesk::new(rt, rt, carried_by(&words)).of_version(satip_program::VERSION);
     let mut ended = satip_program::satip(
         &rt,
         rt.alloc(),

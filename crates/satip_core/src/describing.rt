@@ -1,8 +1,10 @@
 //! The description of the server and its streams.
 
-ghost use Rattle.std.specs.Prelude.{◌≡◌, ◌+◌, ◌<◌, ◌≤◌, ◌++◌, length, take};
+ghost use Rattle.std.specs.Prelude.{◌≡◌, ◌+◌, ◌≤◌, ◌++◌, length};
+ghost use Rattle.std.specs.List.{flat_map};
 ghost use Rattle.satip_base.specs.Output.{Wrote, empty};
 ghost use Rattle.satip_rtsp.specs.Replies.{describe_head};
+ghost use Rattle.satip_sdp.specs.Sdp.{stream_lines};
 ghost use Rattle.satip_plain.specs.Types.{Config as Configured};
 ghost use Rattle.satip_plain.specs.State.{State};
 ghost use Rattle.satip_plain.specs.Steps.{description};
@@ -11,13 +13,11 @@ ghost use Rattle.satip_core.specs.Describing.{if_wanted, is_wanted_stream, views
 
 use satip_base::Out;
 use satip_base::limits::SESSIONS;
-use satip_pids::PidSet;
 use satip_rtcp::StreamView;
 use satip_rtsp::write_describe;
-use satip_sdp::{sdp_length, write_sdp};
+use satip_sdp::{head_text, stream_text};
 use satip_state::Parts;
 use satip_tune::Config;
-use std::array;
 
 /// Appends the reply to DESCRIBE: its head, and the SDP of the named stream or of all (RFC 2326,
 /// section 10.2; SAT>IP 1.2.2, 3.5.7).
@@ -35,64 +35,66 @@ pub fn write_description(
         (describe_head cseq config.now.address (length (description config.now st named))
         ++ description config.now st named) out.new }
 {
-    let mut views: [StreamView; SESSIONS] = array::from_fn(|_place| no_view());
-    let count = view_all(parts, named, &mut views);
-    let shown = views.split_at(count).0;
     let fronts = config.fronts.as_slice().len() as u16;
-    let size = sdp_length(config.address, fronts, shown);
+    let head = head_text(config.address, fronts);
+    let size = head.bytes().len() + streams_length(parts, named);
     write_describe(cseq, config.address, size, out);
-    write_sdp(config.address, fronts, shown, out);
+    out.write(head.bytes());
+    write_streams(parts, named, out);
 }
 
-// Returns the view that fills the unused places.
-fn no_view() -> StreamView {
-    StreamView {
-        number: 0,
-        tuning: None,
-        front: 0,
-        locked: false,
-        pids: PidSet::new(),
-        playing: false,
-    }
-}
-
-// Writes the views of the wanted streams to the start of the list; returns their count.
-fn view_all(parts: &Parts, named: Option<u16>, views: &mut [StreamView]) -> usize
-    requires room { length views.old ≡ SESSIONS }
-    ensures few { result ≤ SESSIONS }
-    ensures size { length views.new ≡ SESSIONS }
-    ensures views { (c : Configured) (st : State) → StandsFor c parts.now st
-        → take result views.new ≡ views_of st named st.streams }
+// Returns the number of bytes of the lines of the wanted streams.
+fn streams_length(parts: &Parts, named: Option<u16>) -> usize
+    ensures length { (c : Configured) (st : State) → StandsFor c parts.now st
+        → result ≡ length (flat_map stream_lines (views_of st named st.streams)) }
+    ensures bound { result ≤ 102400 }
 {
-    let mut count = 0;
+    let mut total = 0;
     for place in 0..SESSIONS {
-        count = put_view(views, count, named, parts.view_at(place));
+        total += length_of(named, parts.view_at(place));
     }
-    count
+    total
 }
 
-// Writes the view of a stream to the list, if the stream is wanted; returns the new count.
-fn put_view(
-    views: &mut [StreamView],
-    count: usize,
-    named: Option<u16>,
-    view: Option<StreamView>,
-) -> usize
-    requires room { count < length views.old }
-    ensures views { take result views.new ≡ take count views.old ++ if_wanted named view }
-    ensures size { length views.new ≡ length views.old }
-    ensures one { result ≤ count + 1 }
+// Returns the number of bytes of the lines of a stream, if the stream is wanted, else 0.
+fn length_of(named: Option<u16>, view: Option<StreamView>) -> usize
+    ensures length { result ≡ length (flat_map stream_lines (if_wanted named view)) }
+    ensures bound { result ≤ 1600 }
 {
     match view {
-        None => count,
+        None => 0,
         Some(view) => {
             if is_wanted(named, view.number) {
-                views[count] = view;
-                count + 1
+                stream_text(&view).bytes().len()
             } else {
-                count
+                0
             }
         }
+    }
+}
+
+// Appends the lines of the wanted streams.
+fn write_streams(parts: &Parts, named: Option<u16>, out: &mut Out)
+    requires room { 102400 ≤ out.old.reply_spare }
+    ensures wrote { (c : Configured) (st : State) → StandsFor c parts.now st → Wrote out.old
+        (flat_map stream_lines (views_of st named st.streams)) out.new }
+{
+    for place in 0..SESSIONS {
+        write_stream(named, parts.view_at(place), out);
+    }
+}
+
+// Appends the lines of a stream, if the stream is wanted.
+fn write_stream(named: Option<u16>, view: Option<StreamView>, out: &mut Out)
+    requires room { 1600 ≤ out.old.reply_spare }
+    ensures wrote { Wrote out.old (flat_map stream_lines (if_wanted named view)) out.new }
+    ensures room { out.old.reply_spare ≤ out.new.reply_spare + 1600 }
+{
+    let Some(view) = view else {
+        return;
+    };
+    if is_wanted(named, view.number) {
+        out.write(stream_text(&view).bytes());
     }
 }
 

@@ -5,8 +5,9 @@ use crate::given::{output, packet};
 use crate::requests::{change, found_one, parts_with, query};
 use satip_base::{Out, SessionId};
 use satip_fixtures::SECOND_MUX;
+use satip_pids::PidList;
 use satip_plain::{Closed, Pulled, Work};
-use satip_query::PidsGiven;
+use satip_query::{PidsGiven, Query};
 use satip_state::Parts;
 use satip_ts::Packet;
 use std::alloc::Global;
@@ -147,6 +148,38 @@ fn seven_packets_leave_and_reports_follow(rt: HostRuntime) {
     check_work(&rt, &parts, "work", TUNE);
     give_each(&rt, &mut parts, &mut out, &packet, SEVEN);
     check_reports(&rt, &mut parts, &mut out);
+}
+
+// Ticks at a moment, and asserts how the report ends that leaves first.
+fn check_report(rt: &impl Abort, parts: &mut Parts, out: &mut Out, now: u64, end: &[u8]) {
+    ticked(parts, out, now);
+    let is_there = match out.datagram(0) {
+        Some((_, bytes)) => bytes.ends_with(end),
+        None => false,
+    };
+    check(rt, "report", (now, is_there), (now, true));
+}
+
+const ALL: &[u8] = b"\x00\x3ever=1.0;src=1;tuner=1,240,1,15,12402,v,dvbs,,,,27500,;pids=all\x00\x00";
+
+const SIXTEEN: &[u8] =
+    b"\x00\x3dver=1.0;src=1;tuner=1,240,1,15,12402,v,dvbs,,,,27500,;pids=16\x00\x00\x00";
+
+#[test]
+fn a_report_shows_the_pids_of_its_moment(rt: HostRuntime) {
+    let mut out = output(&rt, rt.alloc());
+    let mut parts = parts(&rt, rt.alloc());
+    let id = tuned(&rt, &mut parts, &mut out, false);
+    parts.play(id);
+    check_report(&rt, &mut parts, &mut out, 1200, ALL);
+    check_report(&rt, &mut parts, &mut out, 1400, ALL);
+    let mut list = PidList::new();
+    list.push(16);
+    let mut asked = Query::new();
+    asked.pids = PidsGiven::List(list);
+    change(&mut parts, &mut out, 1, &asked);
+    check_report(&rt, &mut parts, &mut out, 1600, SIXTEEN);
+    check_report(&rt, &mut parts, &mut out, 1800, SIXTEEN);
 }
 
 const THREE: &[PacketRow] = &[("first", 1, 0), ("second", 1, 0), ("third", 1, 0)];

@@ -3,21 +3,25 @@
 use crate::addresses::socket_addr;
 use crate::errors::{Refusal, refusal_of};
 use crate::options::widen;
+use crate::sent::{ROWS, SentCounts};
 use crate::tallies::{Refusals, Tallies};
 use mio::net::UdpSocket;
 use satip_base::Address;
 use satip_host::Throttle;
 use std::io;
+use std::sync::Arc;
 
 // The limit of destinations that have a socket: RTP and RTCP of 64 sessions.
 const SOCKETS: usize = 128;
 
-// A destination with its socket, and the time of its last datagram by the count of sends.
+// A destination with its socket, the time of its last datagram by the count of sends, and the place
+// of its counts.
 #[derive(Drop)]
 struct Connected {
     to: Address,
     socket: UdpSocket,
     used: u64,
+    row: usize,
 }
 
 /// The sockets of the most recent destinations. Each socket has a separate send buffer, so
@@ -33,6 +37,8 @@ pub(crate) struct Destinations {
     sends: u64,
     tallies: Tallies,
     reports: Throttle,
+    // The counts for those who watch the server, if there is somebody.
+    counts: Option<Arc<SentCounts>>,
 }
 
 // Opens a UDP socket at an address and any port, with the largest send buffer that the system
@@ -51,8 +57,12 @@ fn open_connected(rt: &HostRuntime, ip: u32, to: Address) -> io::Result<UdpSocke
 
 impl Destinations {
     /// Creates the sockets: no destination has one yet, and one is common to those that can't get
-    /// one.
-    pub(crate) fn bind(rt: HostRuntime, ip: u32) -> io::Result<Destinations> {
+    /// one. Datagrams are counted in `counts`, if there are some.
+    pub(crate) fn bind(
+        rt: HostRuntime,
+        ip: u32,
+        counts: Option<Arc<SentCounts>>,
+    ) -> io::Result<Destinations> {
         Ok(Destinations {
             rt,
             ip,
@@ -62,7 +72,50 @@ impl Destinations {
             sends: 0,
             tallies: Tallies::new(rt.alloc()),
             reports: Throttle::new(),
+            counts,
         })
+    }
+
+    // Returns the place of a destination's counts. One without gets a row that no destination has,
+    // or one that no destination with a socket has.
+    fn row_of(&self, to: Address) -> usize {
+        let Some(counts) = &self.counts else {
+            return ROWS;
+        };
+        if let Some(place) = counts.place_of(to) {
+            return place;
+        }
+        let place = match counts.free_place() {
+            Some(place) => place,
+            None => self.spare_row(),
+        };
+        counts.begin(place, to);
+        place
+    }
+
+    // Returns the place of the first row that no destination with a socket has.
+    fn spare_row(&self) -> usize {
+        for place in 0..ROWS {
+            if self.connected.iter().all(|entry| entry.row != place) {
+                return place;
+            }
+        }
+        ROWS
+    }
+
+    // Counts a datagram, if the system took it.
+    fn count(&self, row: usize, sent: &io::Result<usize>) {
+        if let (Some(counts), Ok(bytes)) = (&self.counts, sent) {
+            counts.count(row, *bytes);
+        }
+    }
+
+    // Counts a datagram that was refused.
+    fn refuse(&mut self, to: Address, cause: Refusal) {
+        self.tallies.count(to, cause);
+        if let Some(counts) = &self.counts {
+            counts.refuse(self.row_of(to), cause);
+        }
     }
 
     // Returns the place of a destination, or the count of places if it has none. Those of an event
@@ -80,13 +133,21 @@ impl Destinations {
         count
     }
 
-    // Adds a socket. Closes the least recently used one first if there is no room.
-    fn add(&mut self, entry: Connected) {
+    // Adds a socket. Closes the least recently used one first if there is no room. Returns the place
+    // of its counts.
+    fn add(&mut self, to: Address, socket: UdpSocket) -> usize {
         if self.connected.len() >= SOCKETS {
             let oldest = self.connected.iter().map(|entry| entry.used).min();
             self.connected.retain(|entry| Some(entry.used) != oldest);
         }
-        let _ = self.connected.push(entry);
+        let row = self.row_of(to);
+        let _ = self.connected.push(Connected {
+            to,
+            socket,
+            used: self.sends,
+            row,
+        });
+        row
     }
 
     // Sends a datagram once, from the destination's socket if it has one or can get one.
@@ -97,13 +158,18 @@ impl Destinations {
         if let Some(entry) = self.connected.get_mut(place) {
             self.next = place.saturating_add(1);
             entry.used = used;
-            return entry.socket.send(bytes);
+            let (row, sent) = (entry.row, entry.socket.send(bytes));
+            self.count(row, &sent);
+            return sent;
         }
-        let Ok(socket) = open_connected(&self.rt, self.ip, to) else {
-            return self.common.send_to(bytes, socket_addr(to));
+        let (row, sent) = match open_connected(&self.rt, self.ip, to) {
+            Ok(socket) => {
+                let sent = socket.send(bytes);
+                (self.add(to, socket), sent)
+            }
+            Err(_) => (self.row_of(to), self.common.send_to(bytes, socket_addr(to))),
         };
-        let sent = socket.send(bytes);
-        self.add(Connected { to, socket, used });
+        self.count(row, &sent);
         sent
     }
 
@@ -115,10 +181,10 @@ impl Destinations {
             Ok(count) => return count == bytes.len(),
             Err(error) => match refusal_of(&error) {
                 Refusal::NoRoom => {
-                    self.tallies.count(to, Refusal::NoRoom);
+                    self.refuse(to, Refusal::NoRoom);
                     return false;
                 }
-                Refusal::Unheard => self.tallies.count(to, Refusal::Unheard),
+                Refusal::Unheard => self.refuse(to, Refusal::Unheard),
                 _ => {}
             },
         }
@@ -134,7 +200,7 @@ impl Destinations {
     // Counts a datagram that was refused twice. If that isn't for want of room, its socket may be
     // broken: it is closed, and the next datagram gets a new one.
     fn give_up(&mut self, to: Address, cause: Refusal) {
-        self.tallies.count(to, cause);
+        self.refuse(to, cause);
         if cause != Refusal::NoRoom {
             self.connected.retain(|entry| entry.to != to);
         }
@@ -145,6 +211,9 @@ impl Destinations {
     pub(crate) fn due(&mut self) -> Option<Refusals> {
         if !self.tallies.has_news() || !self.reports.is_due(&self.rt) {
             return None;
+        }
+        if let Some(counts) = &self.counts {
+            counts.lines.add(1);
         }
         Some(self.tallies.take_news(self.rt))
     }

@@ -3,6 +3,7 @@
 ghost use Rattle.std.specs.Prelude.{◌≡◌};
 
 use crate::destinations::Destinations;
+use crate::sent::SentCounts;
 use satip_base::{Address, Put};
 use satip_world::Outlet;
 use std::io;
@@ -24,8 +25,17 @@ impl SharedSocket {
     /// least recently used is closed for a new one. A destination that can get none is sent to from
     /// the first socket.
     pub fn bind(rt: HostRuntime, ip: u32) -> io::Result<SharedSocket> {
+        SharedSocket::counting(rt, ip, None)
+    }
+
+    /// Binds one as `bind` does. Datagrams are counted in `counts`, if there are some.
+    pub fn counting(
+        rt: HostRuntime,
+        ip: u32,
+        counts: Option<Arc<SentCounts>>,
+    ) -> io::Result<SharedSocket> {
         Ok(SharedSocket {
-            free: Mutex::new(Some(Destinations::bind(rt, ip)?)),
+            free: Mutex::new(Some(Destinations::bind(rt, ip, counts)?)),
             freed: Condvar::new(),
         })
     }

@@ -15,6 +15,7 @@ use std::io::{ErrorKind, Read, Write};
 use std::net::{SocketAddr, TcpStream, UdpSocket};
 use std::process::Abort;
 use std::sync::Wait;
+use std::thread::Threads;
 
 // Asks a server that is silent so far. Asserts that nothing was received before, and that the
 // server reads the request.
@@ -109,7 +110,7 @@ struct Client {
 }
 
 // Returns what a desk gives a client of a server at 127.0.0.2.
-fn make_client<R: Wait + Abort + Copy + Drop + Send>(
+fn make_client<R: Wait + Threads + Abort + Copy + Drop + Send>(
     host: HostRuntime,
     rt: R,
     port: u16,

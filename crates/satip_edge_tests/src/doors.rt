@@ -374,6 +374,25 @@ fn pieces_and_the_end_of_doors_are_arrivals(rt: HostRuntime) {
     check(&rt, "the end", (arrivals.count(), arrivals.ends()), (3, 1));
 }
 
+#[test]
+fn a_fault_of_doors_ends_the_wait_of_a_pump(rt: HostRuntime) {
+    let arrivals = no_arrivals(&rt, rt);
+    let counted = Arc::try_clone(&arrivals).expect(&rt, "another owner");
+    let listeners = listen_with(&rt, rt, counted, Carried::Replies);
+    let listeners = Arc::new(rt.alloc(), listeners).expect(&rt, "out of memory");
+    let shared = Arc::try_clone(&listeners).expect(&rt, "another owner");
+    let mut doors = RealDoors::new(rt, start(&rt, rt.alloc()), shared, 60, 0);
+    let begin = Instant::now(&rt).expect(&rt, "clock");
+    listeners.shut_down();
+    let (_, failed) = thread::join(
+        &rt,
+        || arrivals.wait(&rt, 0, Duration::from_secs(50)),
+        || matches!(next_come(&mut doors), Door::Failed),
+    );
+    check(&rt, "a fault", (failed, arrivals.ends()), (true, 1));
+    check_within(&rt, "wait", elapsed_ms(&rt, rt, &begin), 0, 45_000);
+}
+
 // Waits for up to 5 s for an arrival, and ends the client. Returns whether it came.
 fn await_arrival(host: HostRuntime, arrivals: &Arrivals, client: TcpStream) -> bool {
     for _ in 0..500 {

@@ -16,6 +16,7 @@ use std::env::{Env, FillError};
 use std::process::Abort;
 use std::sync::Wait;
 use std::thread;
+use std::thread::Threads;
 
 // A configuration for loopback with two workers and no front end, and what stands in place of its
 // kits.
@@ -106,8 +107,12 @@ fn config_of(rt: &impl Abort, alloc: Global, row: &Row, used: Used) -> Config {
 }
 
 // Returns what stands in place of the kits.
-fn fault_of<R: Wait + Copy + Drop>(host: HostRuntime, rt: R, config: &Config) -> Option<KitsFault> {
-    real_kits(host, rt, config, 1, Carried::Replies).err()
+fn fault_of<R: Wait + Threads + Copy + Drop>(
+    host: HostRuntime,
+    rt: R,
+    config: &Config,
+) -> Option<KitsFault> {
+    real_kits(host, rt, config, 1, Carried::Replies, b"").err()
 }
 
 fn kind_of(fault: &Option<KitsFault>) -> &'static str {
@@ -216,7 +221,7 @@ fn turn_all<R: Wait + Drop>(
 #[test]
 fn kits_go_to_other_threads(rt: HostRuntime) {
     let config = make_config(&rt, rt.alloc(), &NO_FAULT, (0, 0));
-    let Ok(jobs) = real_kits(rt, rt, &config, 1, Carried::Replies) else {
+    let Ok(jobs) = real_kits(rt, rt, &config, 1, Carried::Replies, b"") else {
         panic!(rt; "no kits");
     };
     let JobKits {

@@ -18,6 +18,8 @@ mod sending;
 #[cfg(test)]
 mod sockets;
 #[cfg(test)]
+mod status;
+#[cfg(test)]
 mod stops;
 #[cfg(test)]
 mod waits;

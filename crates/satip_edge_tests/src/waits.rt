@@ -77,9 +77,9 @@ fn a_client_with_a_lane_is_waited_for_shortly(rt: HostRuntime) {
     client.write_all(b"a").expect(&rt, "a byte");
     check_heard(&rt, "a byte", &mut conn, b"a");
     check(&rt, "reply", conn.send(b"a"), Put::Whole);
-    // it stays so after 1.4 s in which nothing was sent
+    // four short waits, and then those of a client to which no frames go
     let quiet_ms = time_idles(&rt, rt, &mut conn, 50);
-    check_within(&rt, "quiet", quiet_ms, 1_700, 40_000);
+    check_within(&rt, "quiet", quiet_ms, 1_600, 40_000);
     client.read_exact(&mut [0]).expect(&rt, "reply");
     let short_ms = least_idle(&rt, rt, &mut conn, &mut client, false);
     check_within(&rt, "short", short_ms, 34, 200);

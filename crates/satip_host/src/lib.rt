@@ -1,5 +1,5 @@
-//! Clocks, random bytes, the count of arrivals, the file that asks a server to end, and lines on
-//! standard error.
+//! Clocks, random bytes, counts, the count of arrivals, the file that asks a server to end, and
+//! lines on standard error.
 //! Contract: none on what is read or written.
 //! Only tested: that no step of the wall clock moves the session clock, that keys differ, that an
 //! arrival ends a wait for it, and when a server was asked to end.
@@ -7,6 +7,7 @@
 
 mod arrivals;
 mod clock;
+mod counting;
 mod key;
 mod report;
 mod shown;
@@ -18,8 +19,9 @@ mod tests;
 
 pub use arrivals::Arrivals;
 pub use clock::{ClockStart, RealClock, SteadyTime};
+pub use counting::Count;
 pub use key::read_key;
-pub use report::{Throttle, report_line, report_notice, report_warning};
+pub use report::{Throttle, UtcTime, report_line, report_notice, report_warning};
 pub use shown::Shown;
 pub use starts::{Start, Starts};
 pub use stop::Stop;

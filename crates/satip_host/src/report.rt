@@ -1,13 +1,14 @@
 //! Lines on standard error.
 
+use crate::counting::Count;
 use jiff::Timestamp;
 use std::env::Env;
 use std::fmt::Display;
-use std::fs;
 use std::io::Write;
 use std::os::unix::fs::MetadataExt;
 use std::sync::atomic::{AtomicU64, Ordering};
 use std::time::{Clock, SystemTime, UNIX_EPOCH};
+use std::{fmt, fs};
 
 // The least time between two lines of one kind, in seconds.
 const APART_S: u64 = 60;
@@ -28,10 +29,26 @@ enum Priority {
     Info = 6,
 }
 
-// Returns the time in UTC; `None` if the clock can't be read.
-fn time(rt: &HostRuntime) -> Option<Timestamp> {
-    let since = SystemTime::now(rt).ok()?.duration_since(UNIX_EPOCH).ok()?;
-    Timestamp::from_second(i64::try_from(since.as_secs()).ok()?).ok()
+/// A time in UTC, shown in the form of RFC 3339 with whole seconds.
+#[derive(Clone, Copy)]
+pub struct UtcTime {
+    time: Timestamp,
+}
+
+impl UtcTime {
+    /// Reads the system's time; `None` if the clock can't be read.
+    pub fn read(rt: &HostRuntime) -> Option<UtcTime> {
+        let since = SystemTime::now(rt).ok()?.duration_since(UNIX_EPOCH).ok()?;
+        let time = Timestamp::from_second(i64::try_from(since.as_secs()).ok()?).ok()?;
+        Some(UtcTime { time })
+    }
+}
+
+impl fmt::Display for UtcTime {
+    fn fmt<W: fmt::Write>(&self, f: &mut fmt::Formatter<W>) -> fmt::Result {
+        let time = self.time;
+        write!(f, "{time}")
+    }
 }
 
 // Returns whether standard error is the stream of the journal that `JOURNAL_STREAM` names by device
@@ -60,7 +77,7 @@ fn write_line<D: Display + Drop>(rt: &HostRuntime, priority: Priority, text: D) 
         let level = priority as u8;
         format!(in alloc; "<{level}>{text}\n")
     } else {
-        match time(rt) {
+        match UtcTime::read(rt) {
             Some(time) => format!(in alloc; "{time}: {text}\n"),
             None => format!(in alloc; "{text}\n"),
         }
@@ -89,6 +106,7 @@ pub fn report_notice<D: Display + Drop>(rt: &HostRuntime, text: D) {
 #[derive(Drop)]
 pub struct Throttle {
     next_s: AtomicU64,
+    lines: Count,
 }
 
 impl Throttle {
@@ -96,7 +114,13 @@ impl Throttle {
     pub fn new() -> Throttle {
         Throttle {
             next_s: AtomicU64::new(0),
+            lines: Count::new(),
         }
+    }
+
+    /// Returns the count of lines that were allowed.
+    pub fn lines(&self) -> u64 {
+        self.lines.get()
     }
 
     /// Returns whether a line may be written now; if so, the next one may follow after a minute.
@@ -111,8 +135,13 @@ impl Throttle {
             return false;
         }
         let next_s = now_s.saturating_add(APART_S);
-        self.next_s
+        let is_due = self
+            .next_s
             .compare_exchange(due_s, next_s, Ordering::SeqCst, Ordering::SeqCst)
-            .is_ok()
+            .is_ok();
+        if is_due {
+            self.lines.add(1);
+        }
+        is_due
     }
 }

@@ -41,6 +41,11 @@ impl Starts {
         }
     }
 
+    /// Returns the count of lines on jobs that haven't begun.
+    pub fn lines(&self) -> u64 {
+        u64::from(self.told.load(Ordering::SeqCst))
+    }
+
     // Returns whether nothing is left to report.
     fn is_settled(&self) -> bool {
         self.begun.load(Ordering::SeqCst) >= self.jobs || self.told.load(Ordering::SeqCst)

@@ -1,5 +1,6 @@
 //! A server that is asked to end by a file.
 
+use crate::counting::Count;
 use crate::report::{report_line, report_notice};
 use crate::shown::Shown;
 use satip_base::{Text, read_number};
@@ -33,6 +34,7 @@ pub struct Stop {
     end_ms: AtomicU64,
     connections: AtomicU64,
     told: AtomicBool,
+    lines: Count,
 }
 
 impl Stop {
@@ -46,7 +48,13 @@ impl Stop {
             end_ms: AtomicU64::new(NEVER),
             connections: AtomicU64::new(0),
             told: AtomicBool::new(false),
+            lines: Count::new(),
         }
+    }
+
+    /// Returns the count of lines on the end of the server.
+    pub fn lines(&self) -> u64 {
+        self.lines.get()
     }
 
     /// Returns the name of the file.
@@ -127,6 +135,7 @@ impl Stop {
             Limit::Seconds(seconds) => Some(seconds),
             Limit::Other => {
                 let name = Shown(&self.name);
+                self.lines.add(1);
                 report_line(
                     &self.rt,
                     format_args!("{name} has no number of seconds up to 86400 on its first line"),
@@ -144,6 +153,7 @@ impl Stop {
         }
         let left = self.connections.load(Ordering::SeqCst);
         let name = &self.name;
+        self.lines.add(1);
         report_notice(
             &self.rt,
             Asked {
@@ -175,6 +185,7 @@ impl Stop {
 
     fn tell_end(&self) {
         if !self.told.swap(true, Ordering::SeqCst) {
+            self.lines.add(1);
             report_notice(&self.rt, "no connection is left, so the server ends");
         }
     }

@@ -29,6 +29,8 @@ pub struct TunnelCaller<'a, R: Wait + Sync> {
 }
 
 impl<'a, R: Wait + Sync> Service for TunnelCaller<'a, R> {
+    type Room = TunnelEvent;
+
     ghost use Rattle.std.specs.Prelude.{false, refl};
     ghost use Rattle.satip_interleave.specs.Calling.{known_by, SameCaller, same_caller, same_caller_then, same_caller_setting, inners_short};
 
@@ -55,6 +57,10 @@ impl<'a, R: Wait + Sync> Service for TunnelCaller<'a, R> {
 
     ghost same_want = { λ _ _ _. refl };
 
+    fn room() -> TunnelEvent {
+        TunnelEvent::Inner(Event::Stop)
+    }
+
     fn call(&mut self, event: &Event, out: &mut Out) -> Result<Answer, ServiceFault> {
         let event = TunnelEvent::Inner(copy_of(event));
         match self.server.call(self.rt, &mut self.pass, &event, out) {
@@ -63,11 +69,16 @@ impl<'a, R: Wait + Sync> Service for TunnelCaller<'a, R> {
         }
     }
 
-    fn burst<L: Lot>(&mut self, lot: &mut L, out: &mut Out) -> Result<(), ServiceFault> {
+    fn burst<L: Lot>(
+        &mut self,
+        lot: &mut L,
+        room: &mut TunnelEvent,
+        out: &mut Out,
+    ) -> Result<(), ServiceFault> {
         let mut feeding = Feeding { lot };
         let burst = self
             .server
-            .burst(self.rt, &mut self.pass, &mut feeding, out);
+            .burst(self.rt, &mut self.pass, &mut feeding, room, out);
         if burst.spent {
             return Err(ServiceFault::Spent);
         }

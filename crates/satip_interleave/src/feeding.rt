@@ -8,7 +8,7 @@ use crate::answers::server_answer;
 use crate::events::{TunnelAnswer, TunnelEvent};
 use crate::one_tunnel::Tunnel;
 use satip_base::Out;
-use satip_plain::Lot;
+use satip_plain::{Event, Lot};
 use satip_turn::Feed;
 
 /// A lot that feeds a burst.
@@ -32,10 +32,15 @@ impl<'a, L: Lot> Feed<Tunnel> for Feeding<'a, L> {
 
     ghost none_taken = { λ f. (refl, tt, λ _. L.none_taken f.lot.now) };
 
-    fn next(&mut self) -> Option<TunnelEvent> {
-        match self.lot.next() {
-            None => None,
-            Some(event) => Some(TunnelEvent::Inner(event)),
+    fn next(&mut self, event: &mut TunnelEvent) -> bool {
+        match event {
+            TunnelEvent::Inner(inner) => self.lot.next(inner),
+            _ => {
+                let mut inner = Event::Stop;
+                let given = self.lot.next(&mut inner);
+                *event = TunnelEvent::Inner(inner);
+                given
+            }
         }
     }
 

@@ -61,6 +61,8 @@ pub(crate) fn fails_to_put<K: JobSink>(sink: &mut K, line: &[u8]) -> bool
 }
 
 impl<'a, R: Wait + Sync, K: JobSink> Service for Journal<'a, R, K> {
+    type Room = Event;
+
     ghost use Rattle.std.specs.Prelude.{[], ◌∷◌, MatchResult, refl};
     ghost use Rattle.satip_base.specs.History.{entry};
     ghost use Rattle.satip_plain.specs.Histories.{Legal};
@@ -100,6 +102,10 @@ impl<'a, R: Wait + Sync, K: JobSink> Service for Journal<'a, R, K> {
 
     ghost same_want = { λ _ _ _. refl };
 
+    fn room() -> Event {
+        Event::Stop
+    }
+
     /// Executes the event, and then puts the line of its entry, unless a put failed before. A put
     /// that fails doesn't change the answer.
     fn call(&mut self, event: &Event, out: &mut Out) -> Result<Answer, ServiceFault>
@@ -135,13 +141,18 @@ impl<'a, R: Wait + Sync, K: JobSink> Service for Journal<'a, R, K> {
     }
 
     /// Executes the events of the lot as calls one after another, each with its line.
-    fn burst<L: Lot>(&mut self, lot: &mut L, out: &mut Out) -> Result<(), ServiceFault> {
+    fn burst<L: Lot>(
+        &mut self,
+        lot: &mut L,
+        room: &mut Event,
+        out: &mut Out,
+    ) -> Result<(), ServiceFault> {
         for made in 0..64u32 {
-            let Some(event) = lot.next() else {
+            if !lot.next(room) {
                 return Ok(());
-            };
+            }
             let _ = made;
-            match self.call(&event, out) {
+            match self.call(room, out) {
                 Ok(answer) => lot.took(&answer, out),
                 Err(fault) => return Err(fault),
             }

@@ -43,14 +43,15 @@ impl Lot for Questions {
 
     ghost none_taken = { λ _. refl };
 
-    fn next(&mut self) -> Option<Event> {
+    fn next(&mut self, event: &mut Event) -> bool {
         if self.left == 0 {
             self.ended = true;
-            return None;
+            return false;
         }
         self.left -= 1;
         self.given = true;
-        Some(Event::Ask { front: 1 })
+        *event = Event::Ask { front: 1 };
+        true
     }
 
     fn took(&mut self, _answer: &Answer, _out: &Out) {

@@ -72,9 +72,10 @@ fn check_bursts<S: Service>(
     lots: Lots,
     name: &str,
 ) {
+    let mut room = S::room();
     for _ in 0..lots.bursts {
         let mut lot = Questions::new(lots.questions);
-        check(rt, name, service.burst(&mut lot, out), Ok(()));
+        check(rt, name, service.burst(&mut lot, &mut room, out), Ok(()));
         check(rt, name, lot.left(), lots.left);
     }
 }

@@ -2,7 +2,7 @@ use crate::checks::check;
 use satip_base::{Address, Out, Strip, Want};
 use satip_fixtures::FIRST_TUNING;
 use satip_pids::{PidList, PidSet};
-use satip_rtcp::{Sender, StreamView, ses1_text, write_report};
+use satip_rtcp::{KeptTexts, Sender, StreamView, ses1_text, write_report};
 use satip_tune::{Fec, Pol, System, Tuning};
 use std::process::Abort;
 
@@ -130,5 +130,77 @@ fn check_lengths(rt: &impl Abort, out: &mut Out, rows: &[(&str, u32, usize)]) {
 fn a_name_ends_in_zero_bytes(rt: HostRuntime) -> Result<(), Want> {
     let mut out = Out::make(rt.alloc())?;
     check_lengths(&rt, &mut out, LENGTHS);
+    Ok(())
+}
+
+// The ends of reports from the length of the SES1 text on: the text, and zero bytes up to a word.
+
+const FIRST: &[u8] = b"SES1\x00\x00\x00\x52ver=1.0;src=1;tuner=1,240,1,15,11361.75,h,dvbs2,8psk,on,\
+    0.35,22000,23;pids=0,16,17\x00\x00";
+
+const OTHER_PIDS: &[u8] = b"SES1\x00\x00\x00\x50ver=1.0;src=1;tuner=1,240,1,15,11361.75,h,dvbs2,\
+    8psk,on,0.35,22000,23;pids=0,400";
+
+const NOT_LOCKED: &[u8] = b"SES1\x00\x00\x00\x4dver=1.0;src=1;tuner=1,0,0,0,11361.75,h,dvbs2,8psk,\
+    on,0.35,22000,23;pids=0,400\x00\x00\x00";
+
+const OTHER_TUNING: &[u8] = b"SES1\x00\x00\x00\x3fver=1.0;src=1;tuner=1,0,0,0,12402,v,dvbs,,,,27500,\
+    34;pids=0,400\x00";
+
+const OTHER_FRONT: &[u8] = b"SES1\x00\x00\x00\x3fver=1.0;src=1;tuner=2,0,0,0,12402,v,dvbs,,,,27500,\
+    34;pids=0,400\x00";
+
+const ALL_PIDS: &[u8] = b"SES1\x00\x00\x00\x3dver=1.0;src=1;tuner=2,0,0,0,12402,v,dvbs,,,,27500,34;\
+    pids=all\x00\x00\x00";
+
+const UNTUNED: &[u8] = b"SES1\x00\x00\x00\x2dver=1.0;src=1;tuner=0,0,0,0,,,,,,,,;pids=none\x00\x00\x00";
+
+// Writes two reports of a view, and asserts their ends: the second has no new text.
+fn check_ends(
+    rt: &impl Abort,
+    texts: &mut KeptTexts,
+    out: &mut Out,
+    name: &str,
+    view: &StreamView,
+    end: &[u8],
+) {
+    for _again in 0..2 {
+        out.clear();
+        texts.write_report(view, &sender(0xc0a8010a), out);
+        let is_there = match out.datagram(0) {
+            Some((_, bytes)) => bytes.ends_with(end),
+            None => false,
+        };
+        check(rt, name, is_there, true);
+    }
+}
+
+// Changes a stream part by part, and asserts the end of its reports after each change.
+fn check_changes(rt: &impl Abort, texts: &mut KeptTexts, out: &mut Out, stream: &mut StreamView) {
+    check_ends(rt, texts, out, "first", stream, FIRST);
+    stream.pids.set(&[0, 400]).expect(rt, "PIDs");
+    check_ends(rt, texts, out, "other PIDs", stream, OTHER_PIDS);
+    stream.locked = false;
+    check_ends(rt, texts, out, "not locked", stream, NOT_LOCKED);
+    stream.tuning = Some(DVBS);
+    check_ends(rt, texts, out, "another tuning", stream, OTHER_TUNING);
+    stream.front = 2;
+    check_ends(rt, texts, out, "another front end", stream, OTHER_FRONT);
+    stream.pids.set_all();
+    check_ends(rt, texts, out, "all PIDs", stream, ALL_PIDS);
+}
+
+#[test]
+fn a_report_has_the_text_of_its_view(rt: HostRuntime) -> Result<(), Want> {
+    let mut texts = KeptTexts::make(rt.alloc())?;
+    let mut out = Out::make(rt.alloc())?;
+    let mut pids = PidSet::new();
+    pids.set(&[0, 16, 17]).expect(&rt, "PIDs");
+    let mut stream = view(Some(FIRST_TUNING), 1, true, pids);
+    check_changes(&rt, &mut texts, &mut out, &mut stream);
+    let untuned = view(None, 0, false, PidSet::new());
+    check_ends(&rt, &mut texts, &mut out, "untuned", &untuned, UNTUNED);
+    stream.number = 65;
+    check_ends(&rt, &mut texts, &mut out, "another stream", &stream, ALL_PIDS);
     Ok(())
 }

@@ -14,6 +14,9 @@ use satip_base::Out;
 /// A server, as one of its callers sees it. With each call the caller may see more entries of the
 /// history, its own and those of others.
 pub trait Service {
+    /// Room for one event of a burst.
+    type Room: Drop + Send;
+
     // the setting that the server was created with
     ghost setting: { Self → Setting };
 
@@ -29,6 +32,9 @@ pub trait Service {
     // the second is the same service as the first, after some calls
     ghost same: { Self → Self → Type 0 };
 
+    /// Creates a room. A caller makes one and lends it to all its bursts.
+    fn room() -> Self::Room;
+
     /// Executes one event. Its entry has the answer, and the output that `out` then holds. An event
     /// with an error has no entry. `Spent` is returned only if the history is full, and `Want` (out
     /// of memory) only if `may_want` holds.
@@ -39,8 +45,14 @@ pub trait Service {
 
     /// Executes the events of the lot one after another: at most 64, until the lot has none left or
     /// an event gets no entry. Each executed event is one entry. Entries of other callers may lie
-    /// between them. If all went well, `out` has the output of the last event.
-    fn burst<L: Lot>(&mut self, lot: &mut L, out: &mut Out) -> Result<(), ServiceFault>
+    /// between them. If all went well, `out` has the output of the last event. Each event is
+    /// written over the one that `room` has.
+    fn burst<L: Lot>(
+        &mut self,
+        lot: &mut L,
+        room: &mut Self::Room,
+        out: &mut Out,
+    ) -> Result<(), ServiceFault>
         requires open { L.ended lot.old ≡ false }
         requires none { L.given lot.old ≡ None }
         ensures same { same self.old self.new }

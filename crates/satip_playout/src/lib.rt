@@ -6,15 +6,15 @@
 
 mod lull;
 mod pacer;
-mod pieces;
 mod progress;
+mod read_ahead;
 mod recording;
 mod recording_clock;
 mod references;
 mod store;
 
 pub use pacer::{RealPacer, pause_until};
-pub use progress::Progress;
+pub use progress::{Played, Progress};
 pub use recording::{Named, Playing, RealRecording, RecordingFault};
 pub use recording_clock::RecordingClock;
 pub use references::{breaks, reference_of, ticks_between};

@@ -21,7 +21,9 @@ pub(crate) struct Lull<R: Wait + Drop> {
     arrivals: Arc<Arrivals>,
     // The pump's place at the arrivals.
     place: usize,
-    // The count of ends of doors at the last pause, and that of short pauses that are left.
+    // The counts of arrivals and of ends of doors at the last pause, and that of short pauses that are
+    // left.
+    seen: u64,
     ends: u64,
     short: u32,
 }
@@ -33,9 +35,20 @@ impl<R: Wait + Drop> Lull<R> {
             rt,
             arrivals,
             place,
+            seen: 0,
             ends: 0,
             short: 0,
         }
+    }
+
+    /// Waits for an arrival for up to `longest`. Returns whether something arrived since the last
+    /// wait.
+    pub(crate) fn wait(&mut self, longest: Duration) -> bool {
+        self.arrivals.wait(&self.rt, self.place, longest);
+        let count = self.arrivals.count();
+        let came = count != self.seen;
+        self.seen = count;
+        came
     }
 
     /// Pauses.
@@ -46,8 +59,7 @@ impl<R: Wait + Drop> Lull<R> {
             self.short = SHORT;
         }
         if self.short == 0 {
-            let longest = Duration::from_micros(LONGEST);
-            self.arrivals.wait(&self.rt, self.place, longest);
+            self.wait(Duration::from_micros(LONGEST));
             return;
         }
         self.short -= 1;

@@ -20,6 +20,9 @@ const LEAST: u64 = 1_000;
 /// The most that the two clocks may be apart, in microseconds.
 const MOST: u64 = 1_000_000;
 
+// The count of pauses after a lull of which the first arrival ends one.
+const BEGINNING: u32 = 50;
+
 /// Returns the microseconds of a pause from the moment `now` to `due`, at least 1000; `None` if the
 /// two are more than a second apart.
 pub fn pause_until(due: u64, now: u64) -> Option<u64>
@@ -69,13 +72,17 @@ impl Follower {
         self.pieces = pieces;
         if idle {
             self.anchor = None;
+            self.progress.note_late(None);
             return None;
         }
         let (Some(place), Ok(now)) = (self.progress.place(), Instant::now(rt)) else {
             self.anchor = None;
+            self.progress.note_late(None);
             return Some(PAUSE);
         };
-        match by_anchor(self.anchor, &place, now) {
+        let due = due_by(self.anchor, &place, now);
+        self.progress.note_late(due.map(|due| due.late()));
+        match due.and_then(|due| pause_until(due.at, due.now)) {
             Some(micros) => Some(micros),
             None => {
                 self.anchor = Anchor::after_pause(&place, now);
@@ -85,14 +92,32 @@ impl Follower {
     }
 }
 
-// Returns the microseconds left until a place; `None` if the two clocks have to be set again.
-fn by_anchor(anchor: Option<Anchor>, place: &Place, now: Instant) -> Option<u64> {
+// The moments at which a pause is to end and begins, in microseconds since both clocks were set.
+#[derive(Clone, Copy)]
+struct Due {
+    at: u64,
+    now: u64,
+}
+
+impl Due {
+    // Returns the microseconds by which the pause begins too late.
+    fn late(&self) -> u64 {
+        self.now.saturating_sub(self.at)
+    }
+}
+
+// Returns when a pause is to end that begins now, at this place; `None` if the two clocks have to be
+// set again.
+fn due_by(anchor: Option<Anchor>, place: &Place, now: Instant) -> Option<Due> {
     let anchor = anchor?;
     if anchor.run != place.run {
         return None;
     }
     let passed = u64::try_from(now.duration_since(anchor.at).as_micros()).ok()?;
-    pause_until(place.micros.saturating_sub(anchor.micros), passed)
+    Some(Due {
+        at: place.micros.saturating_sub(anchor.micros),
+        now: passed,
+    })
 }
 
 // The moments at which the ticker's pauses end, 20 ms apart.
@@ -126,13 +151,31 @@ impl Ticks {
 struct PumpPauses<R: Wait + Drop> {
     follower: Follower,
     lull: Lull<R>,
+    // The count of the next pauses that an arrival ends.
+    beginning: u32,
 }
 
 impl<R: Wait + Drop> PumpPauses<R> {
     fn pause(&mut self, host: &HostRuntime) {
         match self.follower.length(host) {
-            Some(micros) => thread::sleep(host, Duration::from_micros(micros)),
-            None => self.lull.pause(host),
+            Some(micros) => self.rest(host, Duration::from_micros(micros)),
+            None => {
+                self.lull.pause(host);
+                self.beginning = BEGINNING;
+            }
+        }
+    }
+
+    // Pauses for this long. The first arrival after a lull ends a pause: a session for which the pump
+    // began to play, as SETUP tuned to it, may be played now.
+    fn rest(&mut self, host: &HostRuntime, length: Duration) {
+        if self.beginning == 0 {
+            thread::sleep(host, length);
+            return;
+        }
+        self.beginning -= 1;
+        if self.lull.wait(length) {
+            self.beginning = 0;
         }
     }
 }
@@ -155,7 +198,8 @@ enum Pauses<R: Wait + Drop> {
 ///
 /// If a pump has read nothing since its last pause, the pause is a lull, and the clocks are set
 /// again. A lull lasts until something arrives from a client, for up to a second. After an end of
-/// doors ten lulls last 20 ms, since the server may stop.
+/// doors ten lulls last 20 ms, since the server may stop. Of the 50 pauses after a lull the first
+/// arrival ends one.
 ///
 /// A ticker's pauses end 20 ms apart, however long a tick takes.
 ///
@@ -224,6 +268,7 @@ impl<R: Wait + Drop> RealPacer<R> {
                     pieces: 0,
                 },
                 lull: Lull::new(rt, arrivals, place),
+                beginning: 0,
             }),
         }
     }

@@ -1,5 +1,7 @@
-//! The progress of a recording, which its reader reports to its pump's pacer.
+//! The progress of a recording, which its reader reports to its pump's pacer, and what a front end
+//! played.
 
+use satip_host::Count;
 use std::sync::atomic::{AtomicU64, Ordering};
 
 // The value for no place.
@@ -22,6 +24,25 @@ pub struct Progress {
     pieces: AtomicU64,
     run: AtomicU64,
     micros: AtomicU64,
+    // What the front end played, for those who watch the server.
+    mux: Count,
+    bytes: Count,
+    restarts: Count,
+    late: Count,
+}
+
+/// What a front end played since the start.
+#[derive(Clone, Copy, Debug, PartialEq, Eq)]
+pub struct Played {
+    /// The multiplex whose recording it plays now.
+    pub mux: Option<u16>,
+    /// The bytes that were read of recordings.
+    pub bytes: u64,
+    /// How often a repeated recording was begun again.
+    pub restarts: u64,
+    /// The microseconds by which the last pause began too late for the recording's clock; `None` if
+    /// it follows no clock.
+    pub late_micros: Option<u64>,
 }
 
 impl Progress {
@@ -33,7 +54,51 @@ impl Progress {
             pieces: AtomicU64::new(0),
             run: AtomicU64::new(0),
             micros: AtomicU64::new(NONE),
+            mux: Count::new(),
+            bytes: Count::new(),
+            restarts: Count::new(),
+            late: Count::at(NONE),
         }
+    }
+
+    /// Returns what the front end played.
+    pub fn played(&self) -> Played {
+        let late = self.late.get();
+        Played {
+            mux: match u16::try_from(self.mux.get()) {
+                Ok(0) | Err(_) => None,
+                Ok(mux) => Some(mux),
+            },
+            bytes: self.bytes.get(),
+            restarts: self.restarts.get(),
+            late_micros: if late == NONE { None } else { Some(late) },
+        }
+    }
+
+    /// Notes that the recording of a multiplex is played from now on.
+    pub(crate) fn begin(&self, mux: u16) {
+        self.mux.set(u64::from(mux));
+    }
+
+    /// Notes that no recording is played from now on.
+    pub(crate) fn end(&self) {
+        self.mux.set(0);
+        self.late.set(NONE);
+    }
+
+    /// Counts bytes that were read of a recording.
+    pub(crate) fn count(&self, bytes: usize) {
+        self.bytes.add(bytes as u64);
+    }
+
+    /// Counts a recording that begins again at its end.
+    pub(crate) fn count_restart(&self) {
+        self.restarts.add(1);
+    }
+
+    /// Notes by how many microseconds a pause begins too late; `None` if it follows no clock.
+    pub(crate) fn note_late(&self, micros: Option<u64>) {
+        self.late.set(micros.unwrap_or(NONE));
     }
 
     /// Returns whether the recording's clock is to be read.

@@ -4,26 +4,18 @@ ghost use Rattle.std.specs.Prelude.{◌≡◌, ◌≢◌, ◌↔◌, [], IfOk, I
 ghost use Rattle.satip_base.specs.Streams.{fresh_feed};
 ghost use Rattle.std.specs.Io.{ReadsAtMost};
 
-use crate::pieces::{PACKETS, Piece};
 use crate::progress::Progress;
+use crate::read_ahead::{PACKET, ReadAhead};
 use crate::recording_clock::RecordingClock;
 use satip_base::{ReadSource, Source, Taken, Text};
 use satip_host::{Shown, Throttle, report_line};
-use satip_ts::{Cutter, Packet};
 use std::alloc::{AllocError, Global};
 use std::fs::File;
-use std::io::{BufReader, ErrorKind, Read, Seek, SeekFrom};
+use std::io::{ErrorKind, Read, Seek, SeekFrom};
 use std::marker::Model;
 use std::rt::Files;
 use std::sync::Arc;
 use std::{fmt, fs, io};
-
-// The count of bytes that are read of a file at once.
-const AHEAD: usize = 65536;
-
-// The count of bytes that are given to a cutter at once. They fit into it if less than a packet is
-// in it.
-const PIECE: usize = 3008;
 
 // Errors of a shortage (errno(3)).
 const ENOMEM: i32 = 12;
@@ -138,6 +130,26 @@ impl Playing {
             progress.tell_break();
         }
     }
+
+    fn count_restart(&self) {
+        if let Some(progress) = &self.progress {
+            progress.count_restart();
+        }
+    }
+
+    // Notes that the recording of a multiplex is played from now on.
+    pub(crate) fn begin(&self, mux: u16) {
+        if let Some(progress) = &self.progress {
+            progress.begin(mux);
+        }
+    }
+
+    // Notes that no recording is played from now on.
+    pub(crate) fn end(&self) {
+        if let Some(progress) = &self.progress {
+            progress.end();
+        }
+    }
 }
 
 /// The bytes of a recording's file. If it repeats or its clock counts, its packets, one after the
@@ -146,15 +158,14 @@ impl Playing {
 struct PacketReader {
     rt: HostRuntime,
     named: Named,
-    file: BufReader<File>,
-    cutter: Cutter,
-    piece: Piece,
+    file: File,
+    ahead: ReadAhead,
+    // The count of the first bytes read ahead whose packets were looked at.
+    looked: usize,
     clock: RecordingClock,
     playing: Playing,
     // Whether a packet was read since the file's start.
     any: bool,
-    // The error that ended the reading of a piece that had packets.
-    fault: Option<io::Error>,
 }
 
 impl PacketReader {
@@ -164,101 +175,70 @@ impl PacketReader {
         named: &Named,
         playing: &Playing,
     ) -> Result<PacketReader, RecordingFault> {
-        let file = BufReader::with_capacity(rt.alloc(), AHEAD, open_regular(rt, &named.name)?)?;
+        let file = open_regular(rt, &named.name)?;
+        let named = named.copy(rt)?;
         let playing = playing.of_recording()?;
         playing.tell_break();
         Ok(PacketReader {
             rt: *rt,
-            named: named.copy(rt)?,
+            named,
             file,
-            cutter: Cutter::new(),
-            piece: Piece::new(),
+            ahead: ReadAhead::new(),
+            looked: 0,
             clock: RecordingClock::new(),
             playing,
             any: false,
-            fault: None,
         })
     }
 
-    // Reads bytes as they are in the file, past the buffer, which would only copy them.
-    fn read_bytes(&mut self, buf: &mut [u8]) -> io::Result<usize>
+    // Reads packets, one after the other, as many as were read ahead and the buffer has room for; a
+    // part of one if it has no room for one. Returns the count of bytes, 0 at the end.
+    fn read_packets(&mut self, buf: &mut [u8]) -> io::Result<usize>
         ensures within { ReadsAtMost result buf.new }
     {
-        let count = self.file.get_mut().read(buf);
-        if let Err(error) = &count {
-            report_fault(&self.rt, &self.named, error);
-        }
-        self.playing.tell(None);
-        count
-    }
-
-    // Reads the next piece. An error after packets is returned by the next call. Reports an error
-    // that is returned.
-    fn next_piece(&mut self) -> io::Result<()> {
-        let ended = match self.fault.take() {
-            Some(error) => Err(error),
-            None => self.fill(),
-        };
-        match ended {
-            Err(error) if self.piece.is_empty() => {
-                report_fault(&self.rt, &self.named, &error);
-                Err(error)
+        if self.looked == 0 {
+            if !self.find()? {
+                return Ok(0);
             }
-            Err(error) => {
-                self.fault = Some(error);
-                Ok(())
-            }
-            Ok(()) => Ok(()),
+            self.look((buf.len() / PACKET).max(1));
         }
+        let count = self.ahead.give(buf, self.looked);
+        self.looked = self.looked.saturating_sub(count);
+        Ok(count)
     }
 
-    // Cuts as many packets as fit and are left, and reports the clock's place after them.
-    fn fill(&mut self) -> io::Result<()> {
-        self.piece.clear();
-        let filled = self.cut_packets();
-        self.playing.tell(self.clock.micros());
-        filled
-    }
-
-    fn cut_packets(&mut self) -> io::Result<()> {
-        for _ in 0..PACKETS {
-            match self.next_packet()? {
-                Some(packet) => self.put(&packet),
-                None => return Ok(()),
-            }
-        }
-        Ok(())
-    }
-
-    fn put(&mut self, packet: &Packet) {
-        self.any = true;
-        self.piece.push(packet);
-        if self.playing.has_clock() && self.clock.read(packet) {
-            self.playing.tell_break();
-        }
-    }
-
-    // Returns the next packet; `None` at the end of the recording.
-    fn next_packet(&mut self) -> io::Result<Option<Packet>> {
+    // Reads on until a whole packet is there. Returns whether there is one.
+    fn find(&mut self) -> io::Result<bool> {
         for _ in 0..u64::MAX {
-            if let Some(packet) = self.cutter.next() {
-                return Ok(Some(packet));
+            if self.ahead.find() {
+                return Ok(true);
             }
             if !self.read_on()? {
-                return Ok(None);
+                return Ok(false);
             }
         }
-        Ok(None)
+        Ok(false)
+    }
+
+    // Looks at the packets that were read ahead, at most `most` of them.
+    fn look(&mut self, most: usize) {
+        for _ in 0..most {
+            let Some(packet) = self.ahead.packet_at(self.looked) else {
+                return;
+            };
+            self.any = true;
+            self.looked = self.looked.saturating_add(PACKET);
+            if self.playing.has_clock() && self.clock.read(packet) {
+                self.playing.tell_break();
+            }
+        }
     }
 
     // Reads more of the file. Returns whether there was more.
     fn read_on(&mut self) -> io::Result<bool> {
-        let mut buf = [0; PIECE];
-        let count = self.file.read(&mut buf)?;
-        if count == 0 {
+        if self.ahead.fill(&mut self.file)? == 0 {
             return self.begin_again();
         }
-        self.cutter.feed(&buf[..count]);
         Ok(true)
     }
 
@@ -269,8 +249,9 @@ impl PacketReader {
             return Ok(false);
         }
         self.file.seek(SeekFrom::Start(0))?;
+        self.playing.count_restart();
         self.any = false;
-        self.cutter = Cutter::new();
+        self.ahead.clear();
         self.clock.break_off();
         self.playing.tell_break();
         Ok(true)
@@ -279,13 +260,15 @@ impl PacketReader {
 
 impl Read for PacketReader {
     fn read(&mut self, buf: &mut [u8]) -> io::Result<usize> {
-        if !self.playing.needs_packets() {
-            return self.read_bytes(buf);
+        let read = match self.playing.needs_packets() {
+            true => self.read_packets(buf),
+            false => self.file.read(buf),
+        };
+        if let Err(error) = &read {
+            report_fault(&self.rt, &self.named, error);
         }
-        if self.piece.is_empty() {
-            self.next_piece()?;
-        }
-        Ok(self.piece.give(buf))
+        self.playing.tell(self.clock.micros());
+        read
     }
 }
 
@@ -322,6 +305,18 @@ pub struct Named {
 }
 
 impl Named {
+    /// Returns the name.
+    pub fn name(&self) -> &Text {
+        &self.name
+    }
+
+    /// Returns the count of lines on the recording.
+    pub fn lines(&self) -> u64 {
+        self.lines.lines()
+    }
+}
+
+impl Named {
     /// Creates the name of a recording on which nothing was reported yet.
     pub fn new(alloc: Global, name: Text) -> Result<Named, AllocError> {
         let lines = Arc::new(alloc, Throttle::new())?;
@@ -341,12 +336,13 @@ impl Named {
     }
 }
 
-/// A recording that is read from its file. If it repeats or its clock counts, 65536 bytes are read
-/// at once, and it is handed out packet by packet, at most 16 at once. Else as much is read as is
-/// asked for.
+/// A recording that is read from its file. If it repeats or its clock counts, up to 12220 bytes are
+/// read at once, and it is handed out packet by packet. Else as much is read as is asked for.
 #[derive(Drop)]
 pub struct RealRecording {
     source: ReadSource<PacketReader>,
+    // What counts the bytes that are read, if somebody does.
+    progress: Option<Arc<Progress>>,
     faults: u64,
 }
 
@@ -373,11 +369,20 @@ impl RealRecording {
     ) -> Result<RealRecording, RecordingFault>
         ensures fresh { IfOk result (λ recording. recording ≡ fresh_feed []) }
     {
+        let progress = playing.of_recording()?.progress;
         let reader = PacketReader::open(rt, named, playing)?;
         Ok(RealRecording {
             source: ReadSource::new(reader),
+            progress,
             faults: 0,
         })
+    }
+
+    // Counts bytes that were read.
+    fn count(&self, bytes: usize) {
+        if let Some(progress) = &self.progress {
+            progress.count(bytes);
+        }
     }
 
     /// Returns whether it failed.
@@ -395,7 +400,10 @@ impl Source for RealRecording {
 
     fn take(&mut self, buf: &mut [u8]) -> Taken {
         match self.source.take(buf) {
-            Taken::Got(count) => Taken::Got(count),
+            Taken::Got(count) => {
+                self.count(count);
+                Taken::Got(count)
+            }
             Taken::End => Taken::End,
             Taken::Failed => {
                 self.faults = self.faults.saturating_add(1);

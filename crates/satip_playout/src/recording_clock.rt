@@ -1,9 +1,16 @@
 //! The clock of a recording.
 
 ghost use Rattle.std.specs.Prelude.{◌≡◌, ◌≤◌, ◌↔◌, IsNone, None, Some};
+ghost use Rattle.satip_ts.specs.Packet.{pid_of};
 
 use crate::references::{SECOND, breaks, reference_of, ticks_between};
-use satip_ts::Packet;
+
+// Returns the packet identifier (PID): 13 bits.
+fn pid(packet: &[u8; 188]) -> u16
+    ensures pid { result ≡ pid_of packet.now }
+{
+    u16::from(packet[1] & 0x1f) << 8 | u16::from(packet[2])
+}
 
 // The ticks by which the clock advanced, and the count of packets over which it did.
 #[derive(Clone, Copy)]
@@ -37,12 +44,12 @@ impl RecordingClock {
         }
     }
 
-    /// Reads a packet. Returns whether the clock has a break there: the packet's flags say so, or
-    /// its reference isn't within the second after the one before.
-    pub fn read(&mut self, packet: &Packet) -> bool {
+    /// Reads the bytes of a packet. Returns whether the clock has a break there: the packet's flags
+    /// say so, or its reference isn't within the second after the one before.
+    pub fn read(&mut self, packet: &[u8; 188]) -> bool {
         self.packets = self.packets.saturating_add(1);
         let reference = reference_of(packet);
-        if !self.is_carrier(packet.pid(), reference.is_some()) {
+        if !self.is_carrier(pid(packet), reference.is_some()) {
             return false;
         }
         let broken = breaks(packet) || !self.step_to(reference);

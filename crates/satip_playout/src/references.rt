@@ -3,8 +3,6 @@
 ghost use Rattle.std.specs.Prelude.{◌≡◌, ◌+◌, ◌-◌, ◌<◌, ◌≤◌, IfSome};
 ghost use Rattle.satip_playout.specs.References.{base_of, extension_of, has_break, has_field, has_reference, reference_in, ticks_of};
 
-use satip_ts::Packet;
-
 /// The count of ticks of 27 MHz in a second.
 pub(crate) const SECOND: u64 = 27_000_000;
 
@@ -42,24 +40,22 @@ fn extension(bytes: &[u8; 188]) -> u64
     u64::from(bytes[10] & 1) * 256 + u64::from(bytes[11])
 }
 
-/// Returns the program clock reference of a packet, in ticks of 27 MHz; `None` exactly if it has
-/// none.
-pub fn reference_of(packet: &Packet) -> Option<u64>
-    ensures reference { result ≡ reference_in packet.now }
+/// Returns the program clock reference in the bytes of a packet, in ticks of 27 MHz; `None` exactly
+/// if it has none.
+pub fn reference_of(bytes: &[u8; 188]) -> Option<u64>
+    ensures reference { result ≡ reference_in bytes.now }
     ensures within { IfSome result (λ ticks. ticks < 2576980377600) }
 {
-    let bytes = packet.bytes();
     if !is_reference(bytes) {
         return None;
     }
     Some((base(bytes) * 300 + extension(bytes)) % ROUND)
 }
 
-/// Returns whether a packet's flags say that the clock has a break there.
-pub fn breaks(packet: &Packet) -> bool
-    ensures breaks { result ≡ has_break packet.now }
+/// Returns whether the flags in the bytes of a packet say that the clock has a break there.
+pub fn breaks(bytes: &[u8; 188]) -> bool
+    ensures breaks { result ≡ has_break bytes.now }
 {
-    let bytes = packet.bytes();
     is_field(bytes, 1) && bytes[5] >> 7 == 1
 }
 

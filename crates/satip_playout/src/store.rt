@@ -158,6 +158,7 @@ impl MuxStore for RealStore {
             Ok(from) => {
                 self.lent += 1;
                 self.peak = self.peak.max(self.lent);
+                self.playing.begin(mux);
                 Ok(from)
             }
             Err(_) => {
@@ -169,6 +170,7 @@ impl MuxStore for RealStore {
 
     fn back(&mut self, from: RealRecording) {
         self.lent = self.lent.saturating_sub(1);
+        self.playing.end();
         if from.has_failed() {
             self.faults = self.faults.saturating_add(1);
         }

@@ -3,6 +3,7 @@
 use crate::checks::{check, check_within};
 use crate::jobs::{elapsed_ms, no_arrivals, start, time_pauses};
 use satip_base::{Source, Taken, Text};
+use satip_host::Arrivals;
 use satip_playout::*;
 use satip_ts::Packet;
 use satip_world::{MuxStore, Pacer};
@@ -71,7 +72,7 @@ const REFERENCES: &[(&str, &[u8], Option<u64>, bool)] = &[
 fn references_and_breaks_are_read(rt: HostRuntime) {
     for (name, head, reference, broken) in REFERENCES {
         let packet = packet_of(&rt, head);
-        let got = (reference_of(&packet), breaks(&packet));
+        let got = (reference_of(packet.bytes()), breaks(packet.bytes()));
         check(&rt, name, got, (*reference, *broken));
     }
 }
@@ -87,7 +88,7 @@ fn a_short_field_has_no_reference(rt: HostRuntime) {
         (184, false),
     ] {
         let packet = packet_of(&rt, &[0x47, 0x01, 0x00, 0x30, length, 0x10]);
-        let got = (length, reference_of(&packet).is_some());
+        let got = (length, reference_of(packet.bytes()).is_some());
         check(&rt, "length", got, (length, whole));
     }
 }
@@ -132,7 +133,8 @@ const READINGS: &[(&str, Option<u64>, bool, Option<u64>)] = &[
 fn a_recordings_clock_goes_on_between_references(rt: HostRuntime) {
     let mut clock = RecordingClock::new();
     for (name, ticks, broken, micros) in READINGS {
-        let got = (clock.read(&packet_at(&rt, *ticks)), clock.micros());
+        let broken_here = clock.read(packet_at(&rt, *ticks).bytes());
+        let got = (broken_here, clock.micros());
         check(&rt, name, got, (*broken, *micros));
     }
 }
@@ -319,6 +321,56 @@ fn a_recording_repeats(rt: HostRuntime) {
     }
 }
 
+// Returns a file of 150 packets with the marks from 0 on, each third behind five other bytes.
+fn mixed_file(rt: &impl Abort, host: HostRuntime) -> Scratch {
+    let mut bytes = Vec::new(host.alloc());
+    let packet = packet_of(rt, PLAIN);
+    for mark in 0..150u8 {
+        if mark % 3 == 0 {
+            bytes.extend_from_slice(&[9; 5]).expect(rt, "out of memory");
+        }
+        append(rt, &mut bytes, &packet, mark);
+    }
+    scratch_file(rt, host, "mixed", &bytes)
+}
+
+// Takes as often as this, at most `size` bytes at once; returns all bytes.
+fn take_all(
+    rt: &impl Abort,
+    alloc: Global,
+    from: &mut RealRecording,
+    size: usize,
+    times: u32,
+) -> Vec<u8> {
+    let mut bytes = Vec::new(alloc);
+    let mut buf = vec![in alloc; 0; size].expect(rt, "out of memory");
+    for _ in 0..times {
+        if let Taken::Got(count) = from.take(&mut buf) {
+            bytes
+                .extend_from_slice(&buf[..count])
+                .expect(rt, "out of memory");
+        }
+    }
+    bytes
+}
+
+#[test]
+fn a_repeated_recording_has_its_packets_alone(rt: HostRuntime) {
+    let file = mixed_file(&rt, rt);
+    for (size, times) in [(1, 60_000), (100, 700), (188, 310), (1000, 130), (12_032, 130)] {
+        let mut from = begin(&rt, &mut store(&rt, rt, &file, playing(true)));
+        let bytes = take_all(&rt, rt.alloc(), &mut from, size, times);
+        assert!(rt; bytes.len() > 188 * 300, "{size}: {}", bytes.len());
+        for (place, byte) in bytes.iter().enumerate() {
+            let wanted = match place % 188 {
+                187 => u8::try_from(place / 188 % 150).unwrap_or(0),
+                within => PLAIN.get(within).copied().unwrap_or(0xff),
+            };
+            assert!(rt; *byte == wanted, "{size}: byte {place} is {byte}");
+        }
+    }
+}
+
 #[test]
 fn a_recording_without_packets_ends(rt: HostRuntime) {
     for (word, length) in [("empty", 0), ("short", 187), ("zeros", 100_000)] {
@@ -330,10 +382,19 @@ fn a_recording_without_packets_ends(rt: HostRuntime) {
 }
 
 // Takes 64 packets.
-fn take_burst(rt: &impl Abort, from: &mut RealRecording, buf: &mut [u8; 3760]) {
-    for _ in 0..4 {
-        check(rt, "piece", from.take(buf), Taken::Got(3008));
+fn take_burst(rt: &impl Abort, from: &mut RealRecording) {
+    let mut buf = [0; 12032];
+    let mut left = buf.len();
+    for _ in 0..64 {
+        if left == 0 {
+            return;
+        }
+        match from.take(&mut buf[..left]) {
+            Taken::Got(count) => left = left.saturating_sub(count),
+            _ => rt.panic("no packets"),
+        }
     }
+    rt.panic("small pieces")
 }
 
 // Returns the milliseconds that ten bursts take: each takes 64 packets and pauses, as a pump does.
@@ -343,10 +404,9 @@ fn time_bursts<R: Wait + Drop>(
     from: &mut RealRecording,
     pacer: &mut RealPacer<R>,
 ) -> u64 {
-    let mut buf = [0; 3760];
     let begin = Instant::now(&host).expect(rt, "clock");
     for _ in 0..10 {
-        take_burst(rt, from, &mut buf);
+        take_burst(rt, from);
         pacer.pause();
     }
     elapsed_ms(rt, host, &begin)
@@ -367,17 +427,18 @@ fn clocked(rt: &impl Abort, alloc: Global, step: u64) -> Vec<u8> {
     bytes
 }
 
-// Returns a recording, and a pacer that follows it.
+// Returns a recording, and a pacer that follows it and waits for these arrivals.
 fn followed<R: Wait + Drop>(
     rt: &impl Abort,
     host: HostRuntime,
     waits: R,
     file: &Scratch,
+    arrivals: Arc<Arrivals>,
 ) -> (RealRecording, RealPacer<R>) {
     let progress = Arc::new(host.alloc(), Progress::new(true)).expect(rt, "out of memory");
     let followed = Arc::try_clone(&progress).expect(rt, "another owner");
     let start = start(rt, host.alloc());
-    let pacer = RealPacer::following(host, waits, start, followed, no_arrivals(rt, host), 0);
+    let pacer = RealPacer::following(host, waits, start, followed, arrivals, 0);
     let playing = Playing {
         repeats: false,
         progress: Some(progress),
@@ -397,7 +458,7 @@ fn time_recording<R: Wait + Drop>(
 ) -> (u64, u64) {
     let bytes = clocked(rt, host.alloc(), step);
     let file = scratch_file(rt, host, word, &bytes);
-    let (mut from, mut pacer) = followed(rt, host, waits, &file);
+    let (mut from, mut pacer) = followed(rt, host, waits, &file, no_arrivals(rt, host));
     let bursts_ms = time_bursts(rt, host, &mut from, &mut pacer);
     (bursts_ms, time_pauses(rt, host, &mut pacer, 1))
 }
@@ -418,6 +479,41 @@ fn a_pause_follows_the_recording(rt: HostRuntime) {
         }
         check_within(&rt, word, least_ms, least, most);
     }
+}
+
+// Returns the milliseconds of two pauses of a pump that begins to play. They are to last 450 and
+// 900 ms. Something arrives before each of them.
+fn time_beginning<R: Wait + Drop>(rt: &impl Abort, host: HostRuntime, waits: R) -> (u64, u64) {
+    let file = scratch_file(rt, host, "begin", &clocked(rt, host.alloc(), 1_518_750));
+    let arrivals = no_arrivals(rt, host);
+    let ends = Arc::try_clone(&arrivals).expect(rt, "another owner");
+    let (mut from, mut pacer) = followed(rt, host, waits, &file, ends);
+    // the lull before
+    arrivals.add_piece();
+    pacer.pause();
+    take_burst(rt, &mut from);
+    pacer.pause();
+    take_burst(rt, &mut from);
+    arrivals.add_piece();
+    let ended_ms = time_pauses(rt, host, &mut pacer, 1);
+    take_burst(rt, &mut from);
+    arrivals.add_piece();
+    (ended_ms, time_pauses(rt, host, &mut pacer, 1))
+}
+
+#[test]
+fn an_arrival_ends_one_pause_of_a_pump_that_begins(rt: HostRuntime) {
+    // a busy machine may be late, but not each time
+    let mut times = (u64::MAX, 0);
+    for _ in 0..20 {
+        if times.0 < 440 && times.1 >= 440 {
+            return;
+        }
+        times = time_beginning(&rt, rt, rt);
+    }
+    let (ended_ms, whole_ms) = times;
+    check_within(&rt, "ended", ended_ms, 0, 439);
+    check_within(&rt, "whole", whole_ms, 440, 5_000);
 }
 
 #[test]

@@ -181,6 +181,7 @@ help = usage
     ++ codes "serve: clients, by the configuration in the file CONFIG; each worker ends after ACCEPTS connections, and never where it is 0\n"
     ++ codes "    satip serve satip.toml 0\n"
     ++ codes "    SATIP_PACE=recording plays each recording at its own rate, SATIP_REPEAT=1 again at its end\n"
+    ++ codes "    SATIP_STOP=FILE ends it softly once FILE is there, SATIP_STATUS=FILE makes it write FILE once a second\n"
     ++ codes "replay: the events of the script on standard input, run by the configuration in the file CONFIG\n"
     ++ codes "    satip replay examples/satip.toml < examples/session.script\n"
     ++ codes "talk: one RTSP connection, from standard input to standard output\n"

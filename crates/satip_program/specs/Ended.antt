@@ -22,14 +22,14 @@ pub record EndedView : Type 0 where
   pub journals : List JournalView
   pub status : ℕ
 
--- the end of a run, by the views of a configuration, of kits with their outlets and without, of a client's devices, and of journals. The types are those of the
--- desk, its configurations, wires, inlets, moments and journals, and the devices of its jobs
-abbrev pub ended_view : {K F W I T J D O P M C N S : Type 0} → (F → Feed) → (view silent_view : JobKits D O P M C → JobsView)
+-- the end of a run, by the views of a configuration, of kits, of a client's devices, and of journals. The types are those of the desk, its configurations,
+-- wires, inlets, moments and journals, and the devices of its jobs
+abbrev pub ended_view : {K F W I T J D O P M C N S : Type 0} → (F → Feed) → (view : JobKits D O P M C → JobsView)
     → (Option W → Option T → Option I → Left) → (List J → List JournalView) → Ended K F W I T J D O P M C N S → EndedView
-ended_view feed view silent_view client journals e = record {
+ended_view feed view client journals e = record {
   source = option_map feed e.config;
   last = option_map (last_view view) e.last;
-  tunnel = option_map (tunnel_last_view view silent_view) e.tunnel;
+  tunnel = option_map (tunnel_last_view view) e.tunnel;
   unused = option_map view e.unused;
   left = client e.wire e.moment e.inlet;
   journals = journals e.journals.items;

@@ -9,4 +9,4 @@ mod top;
 
 pub use satip_desk::{Desk, Jobs, JobsFault};
 pub use satip_tunnel_serve::{Last, TunnelLast};
-pub use top::{Ended, offline, satip};
+pub use top::{Ended, VERSION, offline, satip};

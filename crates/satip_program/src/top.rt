@@ -14,7 +14,6 @@ ghost use Rattle.satip_recorder.specs.Ends.{left_of};
 ghost use Rattle.satip_tunnel_serve.specs.Serve.CommandEnds.{Serves, serve_tells, serving_left};
 ghost use Rattle.satip_tunnel_serve.specs.Serve.CommandRan.{EndsAtLimit};
 ghost use Rattle.satip_tunnel_serve.specs.Ends.{Tunnels, tunnel_left, tunnel_tells};
-ghost use Rattle.satip_tunnel_serve.specs.Silences.{no_outbox};
 ghost use Rattle.satip_program.specs.Commands.{Serve, Tunnel, Journal, asked_of, asked_offline, command_of, serving_of, config_named, recording_in};
 ghost use Rattle.satip_program.specs.Ended.{ended_alone, ended_recording, ended_view};
 ghost use Rattle.satip_program.specs.Journaling.{IsOfJournal};
@@ -45,6 +44,8 @@ const HELP: &[u8] = b"usage: satip talk | replay CONFIG | serve CONFIG ACCEPTS |
     \x20   satip serve satip.toml 0\n\
     \x20   SATIP_PACE=recording plays each recording at its own rate, SATIP_REPEAT=1 again at its \
     end\n\
+    \x20   SATIP_STOP=FILE ends it softly once FILE is there, SATIP_STATUS=FILE makes it write FILE \
+    once a second\n\
     replay: the events of the script on standard input, run by the configuration in the file \
     CONFIG\n\
     \x20   satip replay examples/satip.toml < examples/session.script\n\
@@ -66,7 +67,8 @@ const HELP: &[u8] = b"usage: satip talk | replay CONFIG | serve CONFIG ACCEPTS |
     manual: man satip, or docs/satip.1; statuses: docs/PROTOCOL.md; configuration: \
     examples/satip.toml\n";
 
-const VERSION: &[u8] = b"satip 0.2.0\n";
+/// The output of `--version`.
+pub const VERSION: &[u8] = b"satip 0.2.0\n";
 
 /// The end of a run.
 pub struct Ended<K: Desk> {
@@ -154,7 +156,6 @@ pub fn satip<R: Threads + Wait + Sync, K: Desk, I: Source, O: Sink, E: Sink>(
         (streams I.feed O.drain E.drain input.new output.new errors.new)
         (ended_view K.Config.feed
         (jobs_view K.Doors.hall K.Outlet.outbox K.Store.shelf K.Clock.dial)
-        (jobs_view K.Doors.hall no_outbox K.Store.shelf K.Clock.dial)
         (left_of K.Wire.line K.Moment.dial K.Inlet.inbox)
         (journals_view K.Journal.job K.Journal.drain) result) }
 
@@ -177,7 +178,7 @@ pub fn satip<R: Threads + Wait + Sync, K: Desk, I: Source, O: Sink, E: Sink>(
     ensures tunnel_at_limit { (name : List ℕ) (accepts : ℕ)
         → serving_of words.now ≡ Some (Tunnel name accepts)
         → IfSome result.tunnel (λ last. EndsAtLimit K.Doors.by_limit
-        (jobs_view K.Doors.hall no_outbox K.Store.shelf K.Clock.dial last.jobs).workers
+        (jobs_view K.Doors.hall K.Outlet.outbox K.Store.shelf K.Clock.dial last.jobs).workers
         result.status) }
 {
     match read_service(words) {
@@ -312,10 +313,9 @@ fn run_tunnel<R: Threads + Wait + Sync, K: Desk, E: Sink>(
         accepts name.now (K.desk desk.old) (K.desk desk.new)
         (tunnel_left K.Config.feed
         (jobs_view K.Doors.hall K.Outlet.outbox K.Store.shelf K.Clock.dial)
-        (jobs_view K.Doors.hall no_outbox K.Store.shelf K.Clock.dial)
         result.config result.tunnel result.unused result.status) }
     ensures at_limit { IfSome result.tunnel (λ last. EndsAtLimit K.Doors.by_limit
-        (jobs_view K.Doors.hall no_outbox K.Store.shelf K.Clock.dial last.jobs).workers
+        (jobs_view K.Doors.hall K.Outlet.outbox K.Store.shelf K.Clock.dial last.jobs).workers
         result.status) }
     ensures handed { (K.desk desk.new).handed ≡ (K.desk desk.old).handed }
     ensures journaled { (K.desk desk.new).journaled ≡ (K.desk desk.old).journaled }
@@ -376,7 +376,6 @@ pub fn offline<K: Desk, I: Source, O: Sink, E: Sink>(
         (streams I.feed O.drain E.drain input.new output.new errors.new)
         (ended_view K.Config.feed
         (jobs_view K.Doors.hall K.Outlet.outbox K.Store.shelf K.Clock.dial)
-        (jobs_view K.Doors.hall no_outbox K.Store.shelf K.Clock.dial)
         (left_of K.Wire.line K.Moment.dial K.Inlet.inbox)
         (journals_view K.Journal.job K.Journal.drain) result) }
     ensures nothing { config_named (command_of words.now) ≡ None
@@ -443,7 +442,6 @@ pub fn offline<K: Desk, I: Source, O: Sink, E: Sink>(
 fn without_jobs<K: Desk>(alloc: Global, status: u8, config: Option<K::Config>) -> Ended<K>
     ensures ended { ended_view K.Config.feed
         (jobs_view K.Doors.hall K.Outlet.outbox K.Store.shelf K.Clock.dial)
-        (jobs_view K.Doors.hall no_outbox K.Store.shelf K.Clock.dial)
         (left_of K.Wire.line K.Moment.dial K.Inlet.inbox)
         (journals_view K.Journal.job K.Journal.drain) result
         ≡ ended_alone (option_map K.Config.feed config) status }
@@ -471,7 +469,6 @@ fn with_client<K: Desk>(
 ) -> Ended<K>
     ensures ended { ended_view K.Config.feed
         (jobs_view K.Doors.hall K.Outlet.outbox K.Store.shelf K.Clock.dial)
-        (jobs_view K.Doors.hall no_outbox K.Store.shelf K.Clock.dial)
         (left_of K.Wire.line K.Moment.dial K.Inlet.inbox)
         (journals_view K.Journal.job K.Journal.drain) result
         ≡ ended_recording (left_of K.Wire.line K.Moment.dial K.Inlet.inbox wire moment inlet)

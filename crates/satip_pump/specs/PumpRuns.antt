@@ -32,14 +32,18 @@ pub record PumpState : Type 0 where
   pub outbox : Outbox
   pub faults : ℕ
 
+-- the contract's view of a service, a store and an outlet
+abbrev pub play_state : {S M O : Type 0} → (S → Known) → (M → StoreView) → (O → Outbox) → S → M → O → PumpState
+play_state known shelf outbox service store outlet = record {
+  recording = (shelf store).recording;
+  known = known service;
+  outbox = outbox outlet;
+  faults = (shelf store).faults;
+}
+
 -- the contract's view of a pump's service and kit
 abbrev pub pump_state : {S M O P : Type 0} → (S → Known) → (M → StoreView) → (O → Outbox) → S → PumpKit M O P → PumpState
-pump_state known shelf outbox service kit = record {
-  recording = (shelf kit.store).recording;
-  known = known service;
-  outbox = outbox kit.outlet;
-  faults = (shelf kit.store).faults;
-}
+pump_state known shelf outbox service kit = play_state known shelf outbox service kit.store kit.outlet
 
 -- the entries of the pump of front end `number`, from its first question on, follow the recordings that its store exposes, which stay the same. The outlet was
 -- given their datagrams. The number of recordings that ended early is at most the rise of the store's fault count, unless that count is at its largest value

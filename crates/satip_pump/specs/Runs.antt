@@ -12,11 +12,10 @@ use Rattle.satip_plain.specs.Known.{Known, AddsAll}
 use Rattle.satip_world.specs.Deliveries.{Delivers}
 use Rattle.satip_world.specs.Outboxes.{Outbox}
 use Rattle.satip_world.specs.Recordings.{StoreView}
-use Rattle.satip_desk.specs.declared.kits.PumpKit.{PumpKit}
 use Rattle.satip_pump.specs.declared.reading.Reading.{Reading}
 use Rattle.satip_pump.specs.Events.{datagrams_of}
 use Rattle.satip_plain.specs.Pumping.{Due, Asking, Feeding, Reel, after_work, Pumps}
-use Rattle.satip_pump.specs.PumpRuns.{PumpState, pump_state, RoseBy, last_from}
+use Rattle.satip_pump.specs.PumpRuns.{PumpState, play_state, RoseBy, last_from}
 use Rattle.satip_pump.specs.Readings.{Stands}
 
 -- the entries so far, what is due after them, the last answer, and the number of recordings that ended early
@@ -33,9 +32,9 @@ pub record PumpNow (F : Type 0) : Type 0 where
   pub state : PumpState
   pub reading : Reading F
 
--- the contract's view of a pump's service, kit and reading
-abbrev pub pump_now : {S M O P F : Type 0} → (S → Known) → (M → StoreView) → (O → Outbox) → S → PumpKit M O P → Reading F → PumpNow F
-pump_now known shelf outbox service kit reading = record { state = pump_state known shelf outbox service kit; reading = reading }
+-- the contract's view of a pump's service, store, outlet and reading
+abbrev pub pump_now : {S M O F : Type 0} → (S → Known) → (M → StoreView) → (O → Outbox) → S → M → O → Reading F → PumpNow F
+pump_now known shelf outbox service store outlet reading = record { state = play_state known shelf outbox service store outlet; reading = reading }
 
 -- the last answer named this work
 pub record Runs {F : Type 0} (tells reads : Type 0) (feed : F → Feed) (front : ℕ) (o : PumpState) (n : PumpNow F) (work : Work) : Type 0 where

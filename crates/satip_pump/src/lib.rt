@@ -17,5 +17,5 @@ mod works;
 
 pub use batch::Batch;
 pub use ends::JobEnd;
-pub use pump::run_pump;
-pub use ticker::run_ticker;
+pub use pump::{play_recordings, run_pump};
+pub use ticker::{run_ticker, submit_ticks};

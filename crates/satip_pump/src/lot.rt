@@ -54,6 +54,31 @@ pub(crate) fn is_for(work: Work, number: u64) -> bool
     }
 }
 
+// Writes a packet's event over an event. If that is a packet's too, writes its fields alone: a whole
+// event has 3 kB, since it may be a request, and all of it would be cleared and copied.
+fn put_packet(event: &mut Event, front_now: u16, tune_now: u64, packet_now: Packet)
+    ensures put { event.new ≡ Event.Packet front_now tune_now packet_now }
+{
+    match event {
+        Event::Packet {
+            front,
+            tune,
+            packet,
+        } => {
+            *front = front_now;
+            *tune = tune_now;
+            *packet = packet_now;
+        }
+        _ => {
+            *event = Event::Packet {
+                front: front_now,
+                tune: tune_now,
+                packet: packet_now,
+            };
+        }
+    }
+}
+
 impl Load<'_> {
     // Returns the packet that is given next.
     fn next_packet(&self) -> Option<Packet>
@@ -107,20 +132,17 @@ impl Lot for Load<'_> {
           }),
     ) };
 
-    fn next(&mut self) -> Option<Event> {
+    fn next(&mut self, event: &mut Event) -> bool {
         match self.next_packet() {
             Some(packet) => {
                 self.given = true;
-                Some(Event::Packet {
-                    front: self.front,
-                    tune: self.tune,
-                    packet,
-                })
+                put_packet(event, self.front, self.tune, packet);
+                true
             }
             None => {
                 self.given = false;
                 self.ended = true;
-                None
+                false
             }
         }
     }

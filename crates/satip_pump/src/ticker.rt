@@ -34,6 +34,36 @@ fn tick<S: Service, O: Outlet>(
 
 /// Pauses, reads the clock and submits a tick, again and again, until the service stops. Sends each
 /// tick's datagrams. Blocks.
+pub fn submit_ticks<R: Wait + Sync, S: Service, C: Clock, O: Outlet, P: Pacer>(
+    rt: &R,
+    service: &mut S,
+    clock: &mut C,
+    outlet: &mut O,
+    pacer: &mut P,
+    out: &mut Out,
+) -> JobEnd
+    requires free { (O.outbox outlet.old).held ≡ false }
+    ensures free { (O.outbox outlet.new).held ≡ false }
+    ensures same { S.same service.old service.new }
+    ensures run { TickRun (S.known service.old) (S.known service.new) (C.dial clock.old)
+        (C.dial clock.new)
+        O.tells (O.outbox outlet.old) (O.outbox outlet.new) result }
+    ensures pauses { TickPauses (S.known service.old).own (S.known service.new).own
+        (P.pauses pacer.old) (P.pauses pacer.new) result }
+    ensures spent { result ≡ JobEnd.Spent → (S.known service.new).length ≡ LONGEST_HISTORY }
+    ensures want { result ≡ JobEnd.Want → S.may_want service.old ≡ true }
+{
+    for _ in rt.forever() {
+        pacer.pause();
+        let now = clock.now();
+        if let Some(end) = tick(service, outlet, now, out) {
+            return end;
+        }
+    }
+    unreachable!()
+}
+
+/// Submits ticks with the devices of a kit, as `submit_ticks` does. Blocks.
 pub fn run_ticker<R: Wait + Sync, S: Service, C: Clock, O: Outlet, P: Pacer>(
     rt: &R,
     service: &mut S,
@@ -51,12 +81,12 @@ pub fn run_ticker<R: Wait + Sync, S: Service, C: Clock, O: Outlet, P: Pacer>(
     ensures spent { result ≡ JobEnd.Spent → (S.known service.new).length ≡ LONGEST_HISTORY }
     ensures want { result ≡ JobEnd.Want → S.may_want service.old ≡ true }
 {
-    for _ in rt.forever() {
-        kit.pacer.pause();
-        let now = kit.clock.now();
-        if let Some(end) = tick(service, &mut kit.outlet, now, out) {
-            return end;
-        }
-    }
-    unreachable!()
+    submit_ticks(
+        rt,
+        service,
+        &mut kit.clock,
+        &mut kit.outlet,
+        &mut kit.pacer,
+        out,
+    )
 }

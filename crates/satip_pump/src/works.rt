@@ -54,6 +54,7 @@ pub(crate) fn give<S: Service, O: Outlet>(
     tuning: (u16, u64),
     work: Work,
     buffer: &mut Buffer,
+    room: &mut S::Room,
     out: &mut Out,
     batch: &mut Batch,
 ) -> Result<Work, ServiceFault>
@@ -79,7 +80,7 @@ pub(crate) fn give<S: Service, O: Outlet>(
         buffer,
         batch,
     };
-    let made = service.burst(&mut load, out);
+    let made = service.burst(&mut load, room, out);
     let is_left = load.is_left;
     post_burst(load.batch, is_left, out, outlet);
     outlet.unlock();

@@ -8,6 +8,7 @@ use crate::options::prepare;
 use crate::sending::{advance, send_all};
 use crate::silence::Silence;
 use crate::socket::Socket;
+use crate::visits::Visits;
 use mio::net::TcpStream;
 use satip_base::{Address, Put};
 use satip_datagrams::is_passing;
@@ -16,6 +17,7 @@ use satip_world::{Conn, ConnEnd, Received};
 use std::io;
 use std::io::ErrorKind;
 use std::marker::Model;
+use std::sync::Arc;
 
 // The length of one wait for a dialed server, in milliseconds.
 const SERVER_WAIT_MS: u64 = 1;
@@ -23,10 +25,10 @@ const SERVER_WAIT_MS: u64 = 1;
 /// A TCP connection to a client, or to a server that was dialed.
 ///
 /// A receive from a client waits for bytes, and is idle if none came. It waits up to
-/// - 50 ms for an HTTP client that was sent something;
-/// - 35 ms for an RTSP client to whom frames may go; 10 ms after bytes were received, or more than
-///   131072 were sent, since the last receive; 50 ms after more than 8192 were, if none of the last
-///   32 receives came after more than 131072;
+/// - 50 ms for an HTTP client that was sent something, and 10 ms once after its request;
+/// - 35 ms for an RTSP client to whom frames may go; 10 ms in the four receives after bytes were
+///   received, or more than 131072 were sent between two; 50 ms after more than 8192 were sent, if
+///   none of the last 32 receives came after more than 131072;
 /// - a second for any other client.
 ///
 /// A byte ends each wait. A client is silent while it sends nothing and nothing is sent to it. Over
@@ -51,6 +53,8 @@ pub struct RealConn {
     socket: Socket,
     // That of a client. A dialed server has none: the caller that dialed counts the idles itself.
     silence: Option<Silence>,
+    // What counts its bytes, if somebody does.
+    visits: Option<Arc<Visits>>,
     ended: bool,
     idles: u64,
     receive_faults: u64,
@@ -76,17 +80,18 @@ impl Model for RealConn {
 impl RealConn {
     ghost use Rattle.satip_world.specs.Lines.{fresh_line};
 
-    /// Creates a connection over a stream that was just accepted. Fails if the system can't report
-    /// what happens to it.
+    /// Creates a connection over a stream that was just accepted, whose bytes are counted in
+    /// `visits`. Fails if the system can't report what happens to it.
     pub(crate) fn open(
         rt: &HostRuntime,
         stream: TcpStream,
         silence: Silence,
+        visits: Option<Arc<Visits>>,
     ) -> io::Result<RealConn>
         ensures fresh { IfOk result (λ conn. conn ≡ fresh_line) }
     {
         let socket = Socket::open(rt, stream)?;
-        Ok(RealConn::over(socket, Some(silence)))
+        Ok(RealConn::over(socket, Some(silence), visits))
     }
 
     /// Connects to a server, which has up to 10 s to accept. Returns the error of a refusal or
@@ -95,16 +100,17 @@ impl RealConn {
         ensures fresh { IfOk result (λ conn. conn ≡ fresh_line) }
     {
         let socket = connect(rt, to)?;
-        Ok(RealConn::over(socket, None))
+        Ok(RealConn::over(socket, None, None))
     }
 
-    fn over(socket: Socket, silence: Option<Silence>) -> RealConn
+    fn over(socket: Socket, silence: Option<Silence>, visits: Option<Arc<Visits>>) -> RealConn
         ensures fresh { result ≡ fresh_line }
     {
         prepare(&socket.stream);
         RealConn {
             socket,
             silence,
+            visits,
             ended: false,
             idles: 0,
             receive_faults: 0,
@@ -137,6 +143,18 @@ impl RealConn {
                 Err(io::Error::from(ErrorKind::TimedOut))
             }
             Err(error) => Err(error),
+        }
+    }
+
+    fn count_received(&self, count: usize) {
+        if let Some(visits) = &self.visits {
+            visits.receive(count);
+        }
+    }
+
+    fn count_sent(&self, count: usize) {
+        if let Some(visits) = &self.visits {
+            visits.send(count);
         }
     }
 
@@ -181,7 +199,10 @@ impl Conn for RealConn {
                 self.ended = true;
                 Received::End
             }
-            Ok(count) => Received::Got(count),
+            Ok(count) => {
+                self.count_received(count);
+                Received::Got(count)
+            }
             Err(error) if is_passing(&error) => {
                 self.idles = self.idles.saturating_add(1);
                 Received::Idle
@@ -198,6 +219,7 @@ impl Conn for RealConn {
             silence.answer(bytes.len());
         }
         if self.put(bytes).is_ok() {
+            self.count_sent(bytes.len());
             return Put::Whole;
         }
         self.send_faults = self.send_faults.saturating_add(1);

@@ -7,6 +7,7 @@ use crate::connection::RealConn;
 use crate::errors::{ends_listening, lacks_descriptors};
 use crate::listeners::{Listeners, Visitor};
 use crate::silence::Silence;
+use crate::visits::{Obstacle, Visits};
 use satip_base::Peer;
 use satip_host::{Start, report_line};
 use satip_world::{ConnEnd, Door, DoorKind, Doors};
@@ -39,6 +40,8 @@ pub struct RealDoors {
     limit: u32,
     // Whether the server may be asked to end.
     may_stop: bool,
+    // What counts the connections, if somebody does.
+    visits: Option<Arc<Visits>>,
     count: u64,
     ended: bool,
     idles: u64,
@@ -89,10 +92,35 @@ impl RealDoors {
             timeout_s,
             limit,
             may_stop,
+            visits: None,
             count: 0,
             ended: false,
             idles: 0,
             faults: 0,
+        }
+    }
+
+    /// Returns these doors, whose connections are counted.
+    pub fn counting(self, visits: Arc<Visits>) -> RealDoors
+        ensures same { result ≡ self }
+    {
+        RealDoors {
+            visits: Some(visits),
+            ..self
+        }
+    }
+
+    // Counts a connection that is served from now on.
+    fn begin_visit(&self, kind: DoorKind, peer: Peer, port: u16) {
+        if let Some(visits) = &self.visits {
+            visits.begin(&self.rt, kind, peer, port);
+        }
+    }
+
+    // Counts the end of a connection.
+    fn end_visit(&self) {
+        if let Some(visits) = &self.visits {
+            visits.end();
         }
     }
 }
@@ -102,7 +130,23 @@ impl RealDoors {
 struct Guest {
     kind: DoorKind,
     peer: Peer,
+    port: u16,
     conn: RealConn,
+}
+
+// Counts a connection that can't be served.
+fn refuse(visits: &Option<Arc<Visits>>, obstacle: Obstacle) {
+    if let Some(visits) = visits {
+        visits.refuse(obstacle);
+    }
+}
+
+// Returns the counts of a worker, for one of its connections; `None` if there are none.
+fn share(visits: &Option<Arc<Visits>>) -> Option<Arc<Visits>> {
+    match visits {
+        Some(visits) => Arc::try_clone(visits).ok(),
+        None => None,
+    }
 }
 
 // Reports, at most once a minute, that connections can't be taken.
@@ -123,17 +167,30 @@ fn rest(rt: &HostRuntime) {
 
 // Returns the next connection; `None` if none waits, or if the system has no room for it. One that
 // can't be watched is closed.
-fn welcome(rt: HostRuntime, listeners: &Arc<Listeners>, timeout_s: u32) -> io::Result<Option<Guest>>
+fn welcome(
+    rt: HostRuntime,
+    listeners: &Arc<Listeners>,
+    timeout_s: u32,
+    visits: &Option<Arc<Visits>>,
+) -> io::Result<Option<Guest>>
     ensures fresh { IfOk result (λ came. IfSome came (λ guest. guest.conn ≡ fresh_line)) }
 {
-    let Visitor { kind, peer, stream } = match listeners.accept(WAIT_MS) {
+    let Visitor {
+        kind,
+        peer,
+        port,
+        stream,
+    } = match listeners.accept(WAIT_MS) {
         Ok(Some(visitor)) => visitor,
         Ok(None) => return Ok(None),
         Err(_) if listeners.is_stopped() => return Ok(None),
         Err(error) if ends_listening(&error) => return Err(error),
         Err(error) => {
             if lacks_descriptors(&error) {
+                refuse(visits, Obstacle::Descriptors);
                 report_shortage(&rt, listeners, &error);
+            } else {
+                refuse(visits, Obstacle::Other);
             }
             rest(&rt);
             return Ok(None);
@@ -143,9 +200,15 @@ fn welcome(rt: HostRuntime, listeners: &Arc<Listeners>, timeout_s: u32) -> io::R
         return Ok(None);
     };
     let silence = Silence::begin(rt, kind, timeout_s, shared);
-    match RealConn::open(&rt, stream, silence) {
-        Ok(conn) => Ok(Some(Guest { kind, peer, conn })),
+    match RealConn::open(&rt, stream, silence, share(visits)) {
+        Ok(conn) => Ok(Some(Guest {
+            kind,
+            peer,
+            port,
+            conn,
+        })),
         Err(error) => {
+            refuse(visits, Obstacle::Watch);
             report_shortage(&rt, listeners, &error);
             rest(&rt);
             Ok(None)
@@ -176,8 +239,18 @@ impl Doors for RealDoors {
             self.listeners.arrivals.add();
             return Door::End;
         }
-        match welcome(self.rt, &self.listeners, self.timeout_s) {
-            Ok(Some(Guest { kind, peer, conn })) => {
+        match welcome(self.rt, &self.listeners, self.timeout_s, &self.visits) {
+            Ok(
+                Some(
+                    Guest {
+                        kind,
+                        peer,
+                        port,
+                        conn,
+                    },
+                ),
+            ) => {
+                self.begin_visit(kind, peer, port);
                 self.listeners.enter();
                 self.count = self.count.saturating_add(1);
                 Door::Came { kind, peer, conn }
@@ -194,6 +267,7 @@ impl Doors for RealDoors {
                          one connection less is served at a time)"
                     ),
                 );
+                self.listeners.failures.add(1);
                 self.listeners.arrivals.add();
                 self.faults = self.faults.saturating_add(1);
                 Door::Failed
@@ -205,6 +279,7 @@ impl Doors for RealDoors {
         // Gives the proof the invariant of the doors.
         let _ = &self.count;
         conn.close(self.rt, end);
+        self.end_visit();
         self.listeners.leave();
     }
 }

@@ -6,7 +6,7 @@ use libc::net as c;
 use mio::net::{TcpListener, TcpStream};
 use satip_base::{Address, Peer};
 use satip_datagrams::{peer_of, socket_addr};
-use satip_host::{Arrivals, Stop, Throttle};
+use satip_host::{Arrivals, Count, Stop, Throttle};
 use satip_world::DoorKind;
 use std::io;
 use std::net::Net;
@@ -26,6 +26,8 @@ pub struct Listeners {
     rtsp: TcpListener,
     http: TcpListener,
     pub(crate) shortages: Throttle,
+    // The count of lines on workers whose listener failed.
+    pub(crate) failures: Count,
     pub(crate) arrivals: Arc<Arrivals>,
     pub(crate) carried: Carried,
     // Whether a client that ended no message was given up, and others waited since then.
@@ -59,6 +61,7 @@ pub enum BindFault {
 pub(crate) struct Visitor {
     pub(crate) kind: DoorKind,
     pub(crate) peer: Peer,
+    pub(crate) port: u16,
     pub(crate) stream: TcpStream,
 }
 
@@ -92,6 +95,7 @@ impl Listeners {
                 rtsp,
                 http,
                 shortages: Throttle::new(),
+                failures: Count::new(),
                 arrivals,
                 carried,
                 crowded: AtomicBool::new(false),
@@ -115,8 +119,16 @@ impl Listeners {
         self.stop.is_some()
     }
 
-    /// Returns whether the server was asked to end. Both listeners are closed then: what waits there
-    /// is reset, each wait for it ends, and another server can have the ports (shutdown(2)).
+    /// Closes both listeners: what waits there is reset, each wait for it ends, and another server can
+    /// have the ports (shutdown(2)).
+    pub fn shut_down(&self) {
+        if !self.closed.swap(true, Ordering::SeqCst) {
+            c::shutdown(self.rtsp.as_raw_fd(), c::SHUT_RDWR);
+            c::shutdown(self.http.as_raw_fd(), c::SHUT_RDWR);
+        }
+    }
+
+    /// Returns whether the server was asked to end. Both listeners are closed then.
     pub(crate) fn is_stopped(&self) -> bool {
         let Some(stop) = &self.stop else {
             return false;
@@ -124,10 +136,7 @@ impl Listeners {
         if !stop.is_asked() {
             return false;
         }
-        if !self.closed.swap(true, Ordering::SeqCst) {
-            c::shutdown(self.rtsp.as_raw_fd(), c::SHUT_RDWR);
-            c::shutdown(self.http.as_raw_fd(), c::SHUT_RDWR);
-        }
+        self.shut_down();
         true
     }
 
@@ -159,6 +168,17 @@ impl Listeners {
         if let Some(stop) = &self.stop {
             stop.leave();
         }
+    }
+
+    /// Returns the count of lines on connections that can't be taken and on the end of the server.
+    pub fn lines(&self) -> u64 {
+        let stopping = match &self.stop {
+            Some(stop) => stop.lines(),
+            None => 0,
+        };
+        stopping
+            .saturating_add(self.shortages.lines())
+            .saturating_add(self.failures.get())
     }
 
     /// Returns the port of the RTSP listener.
@@ -222,7 +242,12 @@ fn accept_at(listener: &TcpListener, kind: DoorKind) -> io::Result<Option<Visito
 
 fn accept_once(listener: &TcpListener, kind: DoorKind) -> io::Result<Option<Visitor>> {
     match listener.accept() {
-        Ok((stream, addr)) => Ok(peer_of(addr).map(|peer| Visitor { kind, peer, stream })),
+        Ok((stream, addr)) => Ok(peer_of(addr).map(|peer| Visitor {
+            kind,
+            peer,
+            port: addr.port(),
+            stream,
+        })),
         Err(error) if error.kind() == io::ErrorKind::WouldBlock => Ok(None),
         Err(error) => Err(error),
     }

@@ -1,6 +1,6 @@
 //! When a client is given up, and how long it is waited for.
 
-ghost use Rattle.std.specs.Prelude.{◌≡◌, ◌+◌, ◌-◌, ◌<◌, ◌≤◌, min};
+ghost use Rattle.std.specs.Prelude.{◌≡◌, ◌+◌, ◌-◌, ◌<◌, ◌≤◌, false, min, IsTrue};
 
 use crate::listeners::{Carried, Listeners};
 use satip_host::Stopwatch;
@@ -26,8 +26,12 @@ const STREAM_WAIT_MS: u64 = 50;
 // session starts to play isn't filled within it.
 const LANE_WAIT_MS: u64 = 35;
 
-// The longest wait after many frames, or after a request, which may be PLAY, in milliseconds.
-const FULL_LANE_WAIT_MS: u64 = 10;
+// The longest of the waits after many frames, or after a request, which may be PLAY, in milliseconds.
+// It is that of an HTTP client after its request too.
+const SHORT_WAIT_MS: u64 = 10;
+
+// The count of these waits of a client with a lane. A fast stream pauses at a break of its clock, and begins slowly.
+const SHORT_WAITS: u32 = 4;
 
 // The counts of bytes sent between two waits from which frames are among them, and many.
 const FRAMES: usize = 8192;
@@ -51,9 +55,11 @@ pub(crate) struct Silence {
     // The time since the first byte that has no answer, if there is one.
     asked: Stopwatch,
     is_asked: bool,
-    // The count of bytes sent since the last wait, and of waits since one with many.
+    // The count of bytes sent since the last wait, that of waits since one with many, and that of the
+    // next waits that are to be short.
     sent: usize,
     calm: u32,
+    short: u32,
 }
 
 impl Silence {
@@ -76,6 +82,7 @@ impl Silence {
             is_asked: false,
             sent: 0,
             calm: 0,
+            short: 0,
         }
     }
 
@@ -133,11 +140,12 @@ impl Silence {
         self.end_piece();
         self.sent = 0;
         self.calm = calm_waits(self.calm, sent);
+        self.short = short_waits(self.short, asked, sent);
         if self.reads_stream() {
-            return STREAM_WAIT_MS;
+            return stream_wait_ms(asked);
         }
         let longest_ms = match (self.kind, self.listeners.carried) {
-            (DoorKind::Rtsp, Carried::Frames) => lane_wait_ms(asked, sent, self.calm),
+            (DoorKind::Rtsp, Carried::Frames) => lane_wait_ms(self.short, sent, self.calm),
             _ => QUIET_WAIT_MS,
         };
         longest_ms.min(self.left_ms())
@@ -200,14 +208,39 @@ fn calm_waits(calm: u32, sent: usize) -> u32
     calm.saturating_add(1)
 }
 
-// Returns the longest wait for a client with a lane, after this number of bytes was sent, bytes were
-// received or not, and this number of waits in a row was without many frames.
-fn lane_wait_ms(asked: bool, sent: usize, calm: u32) -> u64
-    ensures short { result ≤ 50 }
-    ensures many { 131072 < sent → result ≡ 10 }
+// Returns the longest wait for a client that reads a stream over HTTP, after bytes were received or
+// not.
+fn stream_wait_ms(asked: bool) -> u64
+    ensures asked { IsTrue asked → result ≡ 10 }
+    ensures more { asked ≡ false → result ≡ 50 }
+{
+    match asked {
+        true => SHORT_WAIT_MS,
+        false => STREAM_WAIT_MS,
+    }
+}
+
+// Returns the count of short waits from now on, after `sent` bytes were sent, and bytes were received
+// or not.
+fn short_waits(short: u32, asked: bool, sent: usize) -> u32
+    ensures asked { IsTrue asked → result ≡ 4 }
+    ensures many { 131072 < sent → result ≡ 4 }
+    ensures fewer { asked ≡ false → sent ≤ 131072 → result ≡ short - 1 }
 {
     if asked || sent > MANY_FRAMES {
-        return FULL_LANE_WAIT_MS;
+        return SHORT_WAITS;
+    }
+    short.saturating_sub(1)
+}
+
+// Returns the longest wait for a client with a lane, the next of `short` short waits if there are
+// some, after this number of bytes was sent, and this number of waits in a row was without many.
+fn lane_wait_ms(short: u32, sent: usize, calm: u32) -> u64
+    ensures most { result ≤ 50 }
+    ensures short { 1 ≤ short → result ≡ 10 }
+{
+    if short > 0 {
+        return SHORT_WAIT_MS;
     }
     if calm > SLOW && sent > FRAMES {
         return STREAM_WAIT_MS;

@@ -21,6 +21,7 @@ use std::marker::Model;
 use std::rt::Files;
 use std::snapshot::Snapshot;
 use std::sync::Wait;
+use std::thread::Threads;
 use std::{fs, io};
 
 /// The file of a configuration.
@@ -56,6 +57,7 @@ pub struct RealDesk<R: Wait + Copy + Drop + Send> {
     host: HostRuntime,
     rt: R,
     carried: Carried,
+    version: &'static [u8],
     given: Option<Snapshot<RealJobs<R>>>,
     dialed: Option<Address>,
     bound: bool,
@@ -79,6 +81,7 @@ impl<R: Wait + Copy + Drop + Send> RealDesk<R> {
             host,
             rt,
             carried,
+            version: b"",
             given: None,
             dialed: None,
             bound: false,
@@ -86,6 +89,18 @@ impl<R: Wait + Copy + Drop + Send> RealDesk<R> {
             journaled: Vec::new(host.alloc()),
             faults: 0,
         }
+    }
+
+    /// Returns this desk, of a program with this line of its name and version.
+    pub fn of_version(self, version: &'static [u8]) -> RealDesk<R>
+        ensures given { result.given ≡ self.given }
+        ensures dialed { result.dialed ≡ self.dialed }
+        ensures bound { result.bound ≡ self.bound }
+        ensures timed { result.timed ≡ self.timed }
+        ensures journaled { result.journaled ≡ self.journaled }
+        ensures faults { result.faults ≡ self.faults }
+    {
+        RealDesk { version, ..self }
     }
 }
 
@@ -142,7 +157,7 @@ impl<R: Wait + Copy + Drop + Send> Devices for RealDesk<R> {
     type Clock = RealClock;
 }
 
-impl<R: Wait + Copy + Drop + Send> Desk for RealDesk<R> {
+impl<R: Wait + Threads + Copy + Drop + Send> Desk for RealDesk<R> {
     ghost use Rattle.std.specs.Prelude.{None, option_map};
     ghost use Rattle.satip_real_desk.specs.RealViews.{real_view};
 
@@ -170,7 +185,14 @@ impl<R: Wait + Copy + Drop + Send> Desk for RealDesk<R> {
         config: &Config,
         accepts: u32,
     ) -> Result<RealJobs<R>, JobsFault> {
-        match real_kits(self.host, self.rt, config, accepts, self.carried) {
+        match real_kits(
+            self.host,
+            self.rt,
+            config,
+            accepts,
+            self.carried,
+            self.version,
+        ) {
             Ok(jobs) => {
                 self.given = Some(Snapshot::of(&jobs));
                 Ok(jobs)

@@ -5,7 +5,8 @@ ghost use Rattle.satip_real_desk.specs.RealViews.{AreFreshKits};
 ghost use Rattle.satip_real_desk.specs.Unused.{IsUnusedWorker, IsUnusedPump, IsUnusedTick};
 
 use crate::fault::KitsFault;
-use crate::ready::{recording_lengths, report_ready};
+use crate::ready::{first_lines, recording_lengths, report_ready};
+use crate::settings::Told;
 use crate::shared::Shared;
 use satip_datagrams::RealOutlet;
 use satip_desk::{JobKits, PumpKit, TickKit, WorkerKit};
@@ -15,6 +16,7 @@ use satip_real::{Carried, RealDoors};
 use satip_tune::Config;
 use std::alloc::Global;
 use std::sync::Wait;
+use std::thread::Threads;
 
 /// The kits of jobs over the system. Their doors share two listeners, their outlets one table of
 /// UDP sockets.
@@ -25,6 +27,7 @@ fn worker_kit<R: Wait + Drop>(
     rt: R,
     shared: &Shared,
     accepts: u32,
+    place: usize,
 ) -> Result<WorkerKit<RealDoors, RealOutlet<R>, RealPacer<R>>, KitsFault>
     ensures unused { IfOk result (λ kit. IsUnusedWorker accepts kit) }
 {
@@ -32,7 +35,7 @@ fn worker_kit<R: Wait + Drop>(
         return Err(KitsFault::Key);
     };
     Ok(WorkerKit {
-        doors: shared.doors(host, accepts)?,
+        doors: shared.doors(host, accepts, place)?,
         outlet: shared.outlet(rt)?,
         pacer: shared.worker_pacer(host)?,
         key,
@@ -47,7 +50,7 @@ fn pump_kit<R: Wait + Copy + Drop>(
 ) -> Result<PumpKit<RealStore, RealOutlet<R>, RealPacer<R>>, KitsFault>
     ensures unused { IfOk result (λ kit. IsUnusedPump kit) }
 {
-    let progress = shared.progress(host.alloc())?;
+    let progress = shared.progress(host.alloc(), place)?;
     let pacer = shared.pump_pacer(host, rt, &progress, place)?;
     Ok(PumpKit {
         store: shared.store(host, Some(progress))?,
@@ -82,8 +85,8 @@ fn worker_kits<R: Wait + Copy + Drop>(
     ensures unused { IfOk result (λ kits. All (IsUnusedWorker accepts) kits.items) }
 {
     let mut kits = Vec::new(alloc);
-    for _ in 0..count {
-        kits.push(worker_kit(host, rt, shared, accepts)?)?;
+    for place in 0..count {
+        kits.push(worker_kit(host, rt, shared, accepts, place as usize)?)?;
     }
     Ok(kits)
 }
@@ -105,16 +108,39 @@ fn pump_kits<R: Wait + Copy + Drop>(
     Ok(kits)
 }
 
-/// Makes the kits of a configuration, for a server whose RTSP connections carry this. It reads the
-/// settings, binds the address and ports, looks for each recording, and reads a key for each
-/// worker. It logs on standard error which recordings can't be played, and then that the server is
-/// ready. Each worker's doors end after `accepts` connections, or never if it is 0.
-pub fn real_kits<R: Wait + Copy + Drop>(
+/// Makes the kits of a configuration, for a server whose RTSP connections carry this, of a program
+/// with this line of its name and version. It reads the variables of the environment, and goes on as
+/// `kits_told` does.
+pub fn real_kits<R: Wait + Threads + Copy + Drop>(
     host: HostRuntime,
     rt: R,
     config: &Config,
     accepts: u32,
     carried: Carried,
+    version: &'static [u8],
+) -> Result<RealJobs<R>, KitsFault>
+    ensures workers { IfOk result (λ kits. length kits.workers.items ≡ config.now.workers) }
+    ensures pumps { IfOk result (λ kits. length kits.pumps.items ≡ length config.now.fronts) }
+    ensures unused_workers { IfOk result (λ kits. All (IsUnusedWorker accepts) kits.workers.items) }
+    ensures unused_pumps { IfOk result (λ kits. All IsUnusedPump kits.pumps.items) }
+    ensures unused_tick { IfOk result (λ kits. IsUnusedTick kits.tick) }
+    ensures fresh { IfOk result (AreFreshKits accepts) }
+{
+    let told = Told::read(&host, host.alloc(), carried, version)?;
+    kits_told(host, rt, config, accepts, told)
+}
+
+/// Makes the kits of a configuration, for a server that is told this beside it. It binds the address
+/// and ports, looks for each recording, and reads a key for each worker. It logs on standard error
+/// which recordings can't be played, and then that the server is ready. Then it begins to write the
+/// status file, if there is to be one. Each worker's doors end after `accepts` connections, or never
+/// if it is 0.
+pub fn kits_told<R: Wait + Threads + Copy + Drop>(
+    host: HostRuntime,
+    rt: R,
+    config: &Config,
+    accepts: u32,
+    told: Told,
 ) -> Result<RealJobs<R>, KitsFault>
     ensures workers { IfOk result (λ kits. length kits.workers.items ≡ config.now.workers) }
     ensures pumps { IfOk result (λ kits. length kits.pumps.items ≡ length config.now.fronts) }
@@ -124,7 +150,7 @@ pub fn real_kits<R: Wait + Copy + Drop>(
     ensures fresh { IfOk result (AreFreshKits accepts) }
 {
     let alloc = host.alloc();
-    let shared = Shared::open(&host, alloc, config, carried)?;
+    let shared = Shared::open(&host, alloc, config, told)?;
     let lengths = recording_lengths(&host, &shared.store(host, None)?, &config.files)?;
     let kits = JobKits {
         workers: worker_kits(host, rt, alloc, &shared, config.workers, accepts)?,
@@ -132,5 +158,6 @@ pub fn real_kits<R: Wait + Copy + Drop>(
         tick: tick_kit(host, rt, &shared)?,
     };
     report_ready(&host, config, &shared, &lengths);
+    shared.watch(&host, &rt, first_lines(&lengths))?;
     Ok(kits)
 }

@@ -9,12 +9,15 @@ mod config;
 mod desk;
 mod fault;
 mod kits;
+mod quoted;
 mod ready;
 mod settings;
 mod shared;
+mod status;
+mod watch;
 
 pub use desk::{ConfigFile, RealDesk};
 pub use fault::KitsFault;
-pub use kits::{RealJobs, real_kits};
+pub use kits::{RealJobs, kits_told, real_kits};
 pub use satip_real::Carried;
-pub use settings::Settings;
+pub use settings::{Settings, Told};

@@ -33,6 +33,13 @@ pub(crate) fn recording_lengths(
     Ok(lengths)
 }
 
+/// Returns the count of lines of a start: one on each recording that can't be played, and the one
+/// that the server is ready.
+pub(crate) fn first_lines(lengths: &[Option<u64>]) -> u64 {
+    let missing = lengths.iter().filter(|length| length.is_none()).count();
+    (missing as u64).saturating_add(1)
+}
+
 // A recording that can't be played.
 #[derive(Drop)]
 struct NotPlayed<'a> {

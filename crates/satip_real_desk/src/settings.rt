@@ -4,6 +4,7 @@ ghost use Rattle.std.specs.Prelude.{◌≡◌, ◌≢◌, [], true, false, Some,
 
 use crate::fault::KitsFault;
 use satip_base::Text;
+use satip_real::Carried;
 use std::alloc::Global;
 use std::env::{Env, FillError};
 
@@ -11,8 +12,10 @@ const PACE: &str = "SATIP_PACE";
 
 const REPEAT: &str = "SATIP_REPEAT";
 
-/// The variable that names the file that asks the server to end.
-pub(crate) const STOP: &str = "SATIP_STOP";
+// The variables that name the file that asks the server to end, and the one that it writes.
+const STOP: &str = "SATIP_STOP";
+
+const STATUS: &str = "SATIP_STATUS";
 
 // The room for the name of a file (PATH_MAX of limits.h).
 const PATH: usize = 4096;
@@ -42,12 +45,41 @@ impl Settings {
     }
 }
 
-/// Returns the name of the file that a variable names; `None` if it is empty or not set.
-pub(crate) fn read_file(
-    env: &impl Env,
-    alloc: Global,
-    name: &'static str,
-) -> Result<Option<Text>, KitsFault> {
+/// What a server is told beside its configuration.
+#[derive(Drop)]
+pub struct Told {
+    /// What its RTSP connections carry.
+    pub carried: Carried,
+    /// The line that tells the program's name and version.
+    pub version: &'static [u8],
+    /// How it plays recordings.
+    pub settings: Settings,
+    /// The name of the file that asks it to end, if there may be one.
+    pub stop: Option<Text>,
+    /// The name of its status file, if it writes one.
+    pub status: Option<Text>,
+}
+
+impl Told {
+    /// Reads the variables of the environment.
+    pub fn read(
+        env: &impl Env,
+        alloc: Global,
+        carried: Carried,
+        version: &'static [u8],
+    ) -> Result<Told, KitsFault> {
+        Ok(Told {
+            carried,
+            version,
+            settings: Settings::read(env)?,
+            stop: read_file(env, alloc, STOP)?,
+            status: read_file(env, alloc, STATUS)?,
+        })
+    }
+}
+
+// Returns the name of the file that a variable names; `None` if it is empty or not set.
+fn read_file(env: &impl Env, alloc: Global, name: &'static str) -> Result<Option<Text>, KitsFault> {
     let mut buf = [0; PATH];
     match env.var(name, &mut buf) {
         Ok(0) | Err(FillError::NotPresent) => Ok(None),

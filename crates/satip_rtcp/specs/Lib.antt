@@ -1,2 +1,3 @@
 pub mod Ses1
 pub mod Reports
+pub mod Kept

@@ -3,11 +3,13 @@
 #![tactic(auto)]
 
 mod address;
+mod kept;
 mod report;
 mod ses1;
 mod views;
 
 pub use address::write_address;
+pub use kept::KeptTexts;
 pub use report::write_report;
 pub use ses1::ses1_text;
 pub use views::{Sender, StreamView};

@@ -4,6 +4,7 @@ ghost use Rattle.std.specs.Prelude.{◌≡◌, ◌≢◌, ◌+◌, ◌<◌, ◌�
 ghost use Rattle.std.specs.Int.{to_be_bytes, w16, w32};
 ghost use Rattle.satip_base.specs.Output.{Extended, Sends};
 ghost use Rattle.satip_rtcp.specs.Reports.{application, header, ntp_fraction_of, ntp_seconds_of, report, rtp_time_of, sender_report, source_description};
+ghost use Rattle.satip_rtcp.specs.Kept.{report_with};
 
 use crate::address::write_address;
 use crate::ses1::ses1_text;
@@ -33,12 +34,23 @@ pub fn write_report(view: &StreamView, sender: &Sender, out: &mut Out)
 {
     let mut text = Strip::new();
     ses1_text(view, &mut text);
+    write_parts(text.bytes(), sender, out);
+}
+
+/// Appends one report with this SES1 text.
+pub(crate) fn write_parts(text: &[u8], sender: &Sender, out: &mut Out)
+    requires short { length text.now ≤ 1430 }
+    requires count_room { out.old.count_spare ≢ 0 }
+    requires room { REPORT ≤ out.old.datagram_spare }
+    ensures sent { Sends out.old sender.now.to (report_with text.now sender.now) out.new }
+    ensures bound { length (report_with text.now sender.now) ≤ REPORT }
+{
     let mut address = Strip::new();
     write_address(sender.address, &mut address);
     out.begin(sender.to);
     extend_sender_report(sender, out);
     extend_description(sender.ssrc, address.bytes(), out);
-    extend_application(sender.ssrc, text.bytes(), out);
+    extend_application(sender.ssrc, text, out);
 }
 
 fn extend_sender_report(sender: &Sender, out: &mut Out)

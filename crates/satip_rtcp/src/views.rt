@@ -1,5 +1,7 @@
 //! The data of a stream and of its sender that reports and descriptions print.
 
+ghost use Rattle.std.specs.Prelude.{◌≡◌};
+
 use satip_base::Address;
 use satip_pids::PidSet;
 use satip_tune::Tuning;
@@ -14,6 +16,22 @@ pub struct StreamView {
     pub locked: bool,
     pub pids: PidSet,
     pub playing: bool,
+}
+
+impl StreamView {
+    /// Returns a copy of the view.
+    pub(crate) fn copy(&self) -> StreamView
+        ensures same { result ≡ self.now }
+    {
+        StreamView {
+            number: self.number,
+            tuning: self.tuning,
+            front: self.front,
+            locked: self.locked,
+            pids: self.pids.copy(),
+            playing: self.playing,
+        }
+    }
 }
 
 /// The sender of a report. `to` is where the report goes, `ssrc` the source of the stream, `clock`

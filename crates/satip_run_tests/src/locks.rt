@@ -99,6 +99,8 @@ struct Counted<'a, S: Service + Drop> {
 }
 
 impl<'a, S: Service + Drop> Service for Counted<'a, S> {
+    type Room = S::Room;
+
     ghost setting = { λ c. S.setting c.service };
 
     ghost legal = { λ c h. S.legal c h };
@@ -121,14 +123,23 @@ impl<'a, S: Service + Drop> Service for Counted<'a, S> {
 
     ghost same_want = { λ c d a. S.same_want c.service d.service a };
 
+    fn room() -> S::Room {
+        S::room()
+    }
+
     fn call(&mut self, event: &Event, out: &mut Out) -> Result<Answer, ServiceFault> {
         self.tally.count_call();
         self.service.call(event, out)
     }
 
-    fn burst<L: Lot>(&mut self, lot: &mut L, out: &mut Out) -> Result<(), ServiceFault> {
+    fn burst<L: Lot>(
+        &mut self,
+        lot: &mut L,
+        room: &mut S::Room,
+        out: &mut Out,
+    ) -> Result<(), ServiceFault> {
         self.tally.count_call();
-        self.service.burst(lot, out)
+        self.service.burst(lot, room, out)
     }
 }
 

@@ -5,4 +5,5 @@
 mod lines;
 mod sdp;
 
+pub use lines::{head_text, stream_text};
 pub use sdp::{sdp_length, write_sdp};

@@ -1,14 +1,12 @@
 -- The kits that jobs leave, as they are seen.
 use Rattle.std.proofs.Common.{◌≡◌, refl, sym, ap, ◌∙◌, ℕ, List, [], ◌∷◌, Option, map}
-use Rattle.satip_world.specs.Dials.{Dial}
 use Rattle.satip_world.specs.Halls.{Hall}
 use Rattle.satip_world.specs.Outboxes.{Outbox}
 use Rattle.satip_world.specs.Recordings.{StoreView}
 use Rattle.satip_desk.specs.declared.kits.PumpKit.{PumpKit}
 use Rattle.satip_desk.specs.declared.kits.WorkerKit.{WorkerKit}
-use Rattle.satip_desk.specs.declared.kits.JobKits.{JobKits}
 use Rattle.satip_serve.specs.Ran.{ComeBack}
-use Rattle.satip_desk.specs.Views.{WorkerView, PumpView, TickView, worker_view, pump_view, jobs_view}
+use Rattle.satip_desk.specs.Views.{WorkerView, PumpView, TickView, worker_view, pump_view}
 
 -- the keys of workers, and the recordings of pumps
 keys_seen : {D O P : Type 0} (hall : D → Hall) (outbox : O → Outbox) (kits : List (WorkerKit D O P))
@@ -33,12 +31,3 @@ come_back hall outbox shelf workers workers' pumps pumps' ticker ticker' keys re
   keys = keys_seen hall outbox workers' ∙ keys ∙ sym (keys_seen hall outbox workers);
   recordings = recordings_seen shelf outbox pumps' ∙ recordings ∙ sym (recordings_seen shelf outbox pumps);
 }
-
--- so they do whatever is seen of their outlets
-pub come_back_as : {D O P M C : Type 0} (hall : D → Hall) (outbox outbox' : O → Outbox) (shelf : M → StoreView) (dial : C → Dial) (jobs left : JobKits D O P M C)
-    → ComeBack (jobs_view hall outbox shelf dial jobs) (jobs_view hall outbox shelf dial left)
-    → ComeBack (jobs_view hall outbox' shelf dial jobs) (jobs_view hall outbox' shelf dial left)
-come_back_as hall outbox outbox' shelf dial jobs left back =
-    come_back hall outbox' shelf jobs.workers.items left.workers.items jobs.pumps.items left.pumps.items _ _
-    (sym (keys_seen hall outbox left.workers.items) ∙ back.keys ∙ keys_seen hall outbox jobs.workers.items)
-    (sym (recordings_seen shelf outbox left.pumps.items) ∙ back.recordings ∙ recordings_seen shelf outbox jobs.pumps.items)

@@ -6,7 +6,10 @@ use Rattle.satip_pump.specs.declared.ends.JobEnd.{JobEnd}
 use Rattle.satip_pump.specs.declared.ends.JobEnd.TheVariants.{Spent as JobSpent, Want as JobWant}
 use Rattle.satip_pump.specs.PumpRuns.{PumpRun, PumpState}
 use Rattle.satip_pump.specs.TickRuns.{TickRun}
+use Rattle.satip_world.specs.Dials.{Dial}
 use Rattle.satip_world.specs.Halls.{IsAtLimit}
+use Rattle.satip_world.specs.Outboxes.{Outbox}
+use Rattle.satip_world.specs.Recordings.{StoreView}
 use Rattle.satip_worker.specs.declared.worker.WorkerEnd.{WorkerEnd}
 use Rattle.satip_worker.specs.declared.worker.WorkerEnd.TheVariants.{Closed}
 use Rattle.satip_worker.specs.WorkerRun.{DoorsState, ServesDoors}
@@ -21,6 +24,20 @@ pub record JobState (V : Type 0) : Type 0 where
 
 abbrev pub job_state : {V : Type 0} → V → Known → JobState V
 job_state kit known = record { kit = kit; known = known }
+
+-- the contract's view of a pump's store and outlet, as `pump_view` is of its kit
+abbrev pub play_view : {M O : Type 0} → (M → StoreView) → (O → Outbox) → M → O → PumpView
+play_view shelf outbox store outlet = record {
+  recording = (shelf store).recording;
+  faults = (shelf store).faults;
+  lent = (shelf store).lent;
+  peak = (shelf store).peak;
+  outbox = outbox outlet;
+}
+
+-- the contract's view of the ticker's clock and outlet, as `tick_view` is of its kit
+abbrev pub beat_view : {C O : Type 0} → (C → Dial) → (O → Outbox) → C → O → TickView
+beat_view dial outbox clock outlet = record { dial = dial clock; outbox = outbox outlet }
 
 -- a worker and a pump, over a service that never returns out of memory
 abbrev pub doors_of : JobState WorkerView → DoorsState

@@ -21,3 +21,4 @@ pub use run::run_services;
 pub use satip_jobs::ServeEnd;
 pub use seat::{PumpRoom, pump_seat, tick_seat, work_seat};
 pub use space::{ServeSpace, make_gears, make_pump_rooms, take_space};
+pub use work::{pump, tick};

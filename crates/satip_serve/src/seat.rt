@@ -64,8 +64,10 @@ pub fn pump_seat<R: Wait + Sync, X: Service, M: MuxStore, O: Outlet, P: Pacer>(
     let end = pump(
         rt,
         &mut seat.caller,
-        &mut seat.kit,
         seat.number,
+        &mut seat.kit.store,
+        &mut seat.kit.outlet,
+        &mut seat.kit.pacer,
         &mut seat.room.out,
         &mut seat.room.batch,
     );
@@ -87,6 +89,13 @@ pub fn tick_seat<R: Wait + Sync, X: Service, C: Clock, O: Outlet, P: Pacer>(
 {
     // The job begins with the outlet's lock free.
     seat.kit.outlet.unlock();
-    let end = tick(rt, &mut seat.caller, &mut seat.kit, &mut seat.room);
+    let end = tick(
+        rt,
+        &mut seat.caller,
+        &mut seat.kit.clock,
+        &mut seat.kit.outlet,
+        &mut seat.kit.pacer,
+        &mut seat.room,
+    );
     seat.end = end;
 }

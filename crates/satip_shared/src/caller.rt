@@ -25,6 +25,8 @@ pub struct Caller<'a, R: Wait + Sync> {
 }
 
 impl<'a, R: Wait + Sync> Service for Caller<'a, R> {
+    type Room = Event;
+
     ghost use Rattle.std.specs.Prelude.{false, refl};
     ghost use Rattle.satip_shared.specs.Calling.{known_by, SameCaller, same_caller, same_caller_then, same_caller_setting};
 
@@ -51,6 +53,10 @@ impl<'a, R: Wait + Sync> Service for Caller<'a, R> {
 
     ghost same_want = { λ _ _ _. refl };
 
+    fn room() -> Event {
+        Event::Stop
+    }
+
     fn call(&mut self, event: &Event, out: &mut Out) -> Result<Answer, ServiceFault> {
         match self.server.call(self.rt, &mut self.pass, event, out) {
             Ok(answer) => Ok(answer),
@@ -58,11 +64,16 @@ impl<'a, R: Wait + Sync> Service for Caller<'a, R> {
         }
     }
 
-    fn burst<L: Lot>(&mut self, lot: &mut L, out: &mut Out) -> Result<(), ServiceFault> {
+    fn burst<L: Lot>(
+        &mut self,
+        lot: &mut L,
+        room: &mut Event,
+        out: &mut Out,
+    ) -> Result<(), ServiceFault> {
         let mut feeding = Feeding { lot };
         let burst = self
             .server
-            .burst(self.rt, &mut self.pass, &mut feeding, out);
+            .burst(self.rt, &mut self.pass, &mut feeding, room, out);
         if burst.spent {
             return Err(ServiceFault::Spent);
         }

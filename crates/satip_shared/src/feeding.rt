@@ -25,8 +25,8 @@ impl<'a, L: Lot> Feed<Server> for Feeding<'a, L> {
 
     ghost none_taken = { λ f. (refl, L.none_taken f.lot.now) };
 
-    fn next(&mut self) -> Option<Event> {
-        self.lot.next()
+    fn next(&mut self, event: &mut Event) -> bool {
+        self.lot.next(event)
     }
 
     fn took(&mut self, answer: &Answer, out: &Out) {

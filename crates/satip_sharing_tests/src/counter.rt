@@ -60,13 +60,14 @@ impl Feed<Counter> for Ones {
 
     ghost none_taken = { λ f. Prim.search rules };
 
-    fn next(&mut self) -> Option<u64> {
+    fn next(&mut self, event: &mut u64) -> bool {
         if self.left == 0 {
             self.ended = true;
-            return None;
+            return false;
         }
         self.given = true;
-        Some(1)
+        *event = 1;
+        true
     }
 
     fn took(&mut self, _answer: &u64, _out: &()) {
@@ -157,7 +158,7 @@ fn check_burst<R: Wait + Abort>(
     if ones.ended || ones.given {
         panic!(rt; "{name}: no event is left");
     }
-    let burst = cell.burst(rt, pass, ones, &mut ());
+    let burst = cell.burst(rt, pass, ones, &mut 0, &mut ());
     check(rt, name, burst, Burst { made, spent: false });
 }
 

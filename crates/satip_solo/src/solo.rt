@@ -45,6 +45,8 @@ impl Solo {
 }
 
 impl Service for Solo {
+    type Room = Event;
+
     ghost use Rattle.std.proofs.Common.{◌∙◌};
     ghost use Rattle.std.specs.Prelude.{true, false, refl, List, None, MatchResult, IfErr, OnOk};
     ghost use Rattle.satip_base.specs.Output.{Output};
@@ -77,6 +79,10 @@ impl Service for Solo {
 
     ghost same_want = { λ _ _ _. refl };
 
+    fn room() -> Event {
+        Event::Stop
+    }
+
     /// Executes the event as caller 0, after the Stop of caller 1 if that is due. Out of memory,
     /// neither is executed.
     fn call(&mut self, event: &Event, out: &mut Out) -> Result<Answer, ServiceFault>
@@ -92,7 +98,12 @@ impl Service for Solo {
 
     /// Executes the events of the lot as calls one after another. The only fault is out of memory;
     /// the last event that the lot gave isn't executed then.
-    fn burst<L: Lot>(&mut self, lot: &mut L, out: &mut Out) -> Result<(), ServiceFault>
+    fn burst<L: Lot>(
+        &mut self,
+        lot: &mut L,
+        room: &mut Event,
+        out: &mut Out,
+    ) -> Result<(), ServiceFault>
         requires open { L.ended lot.old ≡ false }
         requires none { L.given lot.old ≡ None }
         ensures same { (log_of self.new).setting ≡ (log_of self.old).setting }
@@ -106,11 +117,11 @@ impl Service for Solo {
             × GoesOn (log_of self.old) ts (log_of self.new) }
     {
         for made in 0..64u32 {
-            let Some(event) = lot.next() else {
+            if !lot.next(room) {
                 return Ok(());
-            };
+            }
             let _ = made;
-            match self.history.make(&event, out) {
+            match self.history.make(room, out) {
                 Ok(answer) => lot.took(&answer, out),
                 Err(fault) => return Err(fault),
             }

@@ -19,6 +19,7 @@ use satip_base::limits::SESSIONS;
 use satip_base::{Draw, Peer, Ports, SessionId, Want};
 use satip_flow::Flow;
 use satip_fronts::Fronts;
+use satip_rtcp::KeptTexts;
 use satip_table::{NewSession, Session, Stream, Table};
 use satip_timer::Timer;
 use satip_tune::{Front, Mux};
@@ -59,6 +60,7 @@ impl Parts {
     {
         let table = Table::make(alloc)?;
         let timer = Timer::make(alloc)?;
+        let texts = KeptTexts::make(alloc)?;
         let flow = Flow::make(alloc)?;
         Ok(Parts {
             clock: capped_moment(start),
@@ -68,6 +70,7 @@ impl Parts {
             timer,
             fronts: Fronts::make(fronts, muxes),
             flow,
+            texts,
         })
     }
 

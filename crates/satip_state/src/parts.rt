@@ -2,11 +2,13 @@
 
 use satip_flow::Flow;
 use satip_fronts::Fronts;
+use satip_rtcp::KeptTexts;
 use satip_table::Table;
 use satip_timer::Timer;
 use std::marker::Model;
 
-/// Table, timer, front ends and flow, with the clock. A contract sees the contents of each of them.
+/// Table, timer, front ends and flow, with the clock, and the texts of reports. A contract sees the
+/// contents of each of them but the texts, which follow from the others.
 #[derive(Drop)]
 pub struct Parts {
     pub(crate) clock: u64,
@@ -16,6 +18,7 @@ pub struct Parts {
     pub(crate) timer: Timer,
     pub(crate) fronts: Fronts,
     pub(crate) flow: Flow,
+    pub(crate) texts: KeptTexts,
 }
 
 impl Model for Parts {

@@ -14,7 +14,7 @@ use crate::parts::Parts;
 use satip_base::limits::{REPORT, REPORT_MS, REPORTS, SESSIONS};
 use satip_base::{Address, Out};
 use satip_flow::SenderState;
-use satip_rtcp::{Sender, write_report};
+use satip_rtcp::Sender;
 use satip_table::{Seat, Session};
 
 impl Parts {
@@ -114,7 +114,7 @@ impl Parts {
             return;
         };
         let sender = sender_of_session(self.clock, address, &seat.session, &sent);
-        write_report(&view, &sender, out);
+        self.texts.write_report(&view, &sender, out);
         let _lived = self.table.reported(seat.session.id, self.clock);
     }
 }

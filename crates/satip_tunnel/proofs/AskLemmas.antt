@@ -53,6 +53,7 @@ module _ (tells : Type 0) (lane : ℕ) (o n : Seat) (l m : Line) (draw : Draw) (
           grows = made_so.grows;
           carries = subst P (sym (append-nil (turned out.reply))) (carries_all tells l m (turned out.reply) sent);
           input = sent.ended;
+          idles = sent.counts.idles;
         };
         calm = calm_counts l m sent.counts;
       }
@@ -85,6 +86,7 @@ module _ (tells : Type 0) (lane : ℕ) (o n : Seat) (l m : Line) (draw : Draw) (
           grows = made_so.grows;
           carries = carries_part tells l m (turned out.reply) failed;
           input = failed.ended;
+          idles = failed.idles;
         };
         faults = failed.send_faults;
         receives = failed.receive_faults;
@@ -93,7 +95,7 @@ module _ (tells : Type 0) (lane : ℕ) (o n : Seat) (l m : Line) (draw : Draw) (
 -- it has no entry
 pub request_unmade : (tells : Type 0) (lane : ℕ) (o n : Seat) (l : Line) → UnmadeEvent o n → StopsUnasked tells lane (conn_at o l) (conn_at n l)
 request_unmade tells lane o n l unmade = record {
-  talks = record { walk = refl; grows = unmade.grows; carries = carries_nothing tells l; input = refl };
+  talks = record { walk = refl; grows = unmade.grows; carries = carries_nothing tells l; input = refl; idles = refl };
   full = unmade.full;
 }
 

@@ -43,6 +43,7 @@ talks_then tells lane o p n l k m from mid to xs ys first second a b = record {
   grows = grows_then o p n xs ys a.grows b.grows;
   carries = carries_sent tells l k m [] first second a.carries b.carries;
   input = b.input ∙ a.input;
+  idles = b.idles ∙ a.idles;
 }
 
 -- with the wire of all of them
@@ -68,7 +69,7 @@ drains_none tells lane o l from = record {
   entries = [];
   none_asked = refl;
   dry = omega arith;
-  talks = record { walk = refl; grows = grows_none o; carries = carries_nothing tells l; input = refl };
+  talks = record { walk = refl; grows = grows_none o; carries = carries_nothing tells l; input = refl; idles = refl };
   calm = calm_from l;
 }
 
@@ -82,7 +83,7 @@ drains_stopped tells lane o n l from may unmade = record {
     entries = [];
     none_asked = refl;
     dry = omega arith;
-    talks = record { walk = refl; grows = unmade.grows; carries = carries_nothing tells l; input = refl };
+    talks = record { walk = refl; grows = unmade.grows; carries = carries_nothing tells l; input = refl; idles = refl };
     calm = calm_from l;
   };
   dry = refl;

@@ -18,12 +18,11 @@ use Rattle.satip_rtsp.specs.declared.requests.Request.{Request}
 use Rattle.satip_rtsp.specs.Asked.{broken_request}
 use Rattle.satip_interleave.proofs.Entries.{inners-append}
 use Rattle.satip_interleave.specs.Histories.{TunnelItem, inners}
-use Rattle.satip_pump.specs.PumpRuns.{RoseBy}
-use Rattle.satip_pump.proofs.ReadingLemmas.{rose_later}
 use Rattle.satip_world.specs.Lines.{Line}
 use Rattle.satip_worker.specs.Answers.{events_of, ends_with, ends_with_last}
 use Rattle.satip_worker.specs.Requests.{asked_by_tail}
 use Rattle.satip_worker.proofs.EventLemmas.{ends_with_last_push}
+use Rattle.satip_worker.proofs.PauseLemmas.{rises_kept}
 use Rattle.satip_worker.proofs.ProgressLemmas.{calm_then, carries_sent, rises_from}
 use Rattle.satip_tunnel.specs.declared.ends.TunnelEnd.{TunnelEnd}
 use Rattle.satip_tunnel.specs.declared.ends.TunnelEnd.TheVariants.{Full as end_full, Broken as end_broken, Done as end_done, ReadFault as end_unread, WriteFault as end_lost, Spent as end_spent}
@@ -138,9 +137,9 @@ module _ (tells : Type 0) (course : Course) (o n : Seat) (l m : Line) (before af
       → SoFar tells course (talk_at n m after) received (sent ++ more) to (body ++ entries) (draws ++ taken)
   so_far_then to entries more taken talks dry takes = record {
     walk = walk_then course.lane Free Free to body entries so_far.walk talks.walk;
-    dry = dry_behind body entries (course.pieces + course.idles) 0 (course.pieces + course.idles) so_far.dry (omega (arith, dry)) (omega arith);
+    dry = dry_behind body entries (course.pieces + course.paused) 0 (course.pieces + course.paused) so_far.dry (omega (arith, dry)) (omega arith);
     few = so_far.few;
-    quiet = rose_later course.idles course.line.idles l.idles m.idles so_far.quiet talks.carries.idles;
+    quiet = rises_kept course.idles course.line.idles l.idles m.idles so_far.quiet talks.idles;
     grows = grows_then course.seat o n body entries so_far.grows talks.grows;
     takes = takes_then course.draws before after draws taken so_far.takes takes;
     carries = carries_sent tells course.line l m received sent more so_far.carries talks.carries;
@@ -153,29 +152,29 @@ pub so_far_drained : (tells : Type 0) (course : Course) (o n : Seat) (l m : Line
     → dry_in entries ≤ length (inners entries) → SoFar tells course (talk_at n m c) received (sent ++ more) to (body ++ entries) draws
 so_far_drained tells course o n l m c received sent body draws so_far to entries more talks dry = record {
   walk = walk_then course.lane Free Free to body entries so_far.walk talks.walk;
-  dry = dry_behind body entries (course.pieces + course.idles) 0 (course.pieces + course.idles) so_far.dry (omega (arith, dry)) (omega arith);
+  dry = dry_behind body entries (course.pieces + course.paused) 0 (course.pieces + course.paused) so_far.dry (omega (arith, dry)) (omega arith);
   few = so_far.few;
-  quiet = rose_later course.idles course.line.idles l.idles m.idles so_far.quiet talks.carries.idles;
+  quiet = rises_kept course.idles course.line.idles l.idles m.idles so_far.quiet talks.idles;
   grows = grows_then course.seat o n body entries so_far.grows talks.grows;
   takes = so_far.takes;
   carries = carries_sent tells course.line l m received sent more so_far.carries talks.carries;
 }
 
--- after so many pieces that completed no message, and so many pauses
-abbrev pub course_after : Course → (pieces idles : ℕ) → Course
-course_after course pieces idles = record course { pieces = pieces; idles = idles }
+-- after this number of pieces that completed no message, and this number of pauses
+abbrev pub course_after : Course → (pieces paused : ℕ) → Course
+course_after course pieces paused = record course { pieces = pieces; paused = paused }
 
 -- the lane was drained once more after a piece that completed no message, or at a receive that found nothing
 pub so_far_counted : (tells : Type 0) (course : Course) (o n : Seat) (l m : Line) (c : ChaCha) (received sent : List ℕ)
     (body : List TunnelItem) (draws : List Draw) → SoFar tells course (talk_at o l c) received sent Free body draws
-    → (pieces idles : ℕ) → pieces + idles ≡ (course.pieces + course.idles) + 1 → pieces ≤ length received → RoseBy idles course.line.idles l.idles
+    → (pieces paused : ℕ) → pieces + paused ≡ (course.pieces + course.paused) + 1 → pieces ≤ length received
     → (to : Stance) (entries : List TunnelItem) (more : List ℕ) → Talks tells course.lane (conn_at o l) (conn_at n m) Free to entries more
-    → dry_in entries ≤ 1 → SoFar tells (course_after course pieces idles) (talk_at n m c) received (sent ++ more) to (body ++ entries) draws
-so_far_counted tells course o n l m c received sent body draws so_far pieces idles one few quiet to entries more talks dry = record {
+    → dry_in entries ≤ 1 → SoFar tells (course_after course pieces paused) (talk_at n m c) received (sent ++ more) to (body ++ entries) draws
+so_far_counted tells course o n l m c received sent body draws so_far pieces paused one few to entries more talks dry = record {
   walk = walk_then course.lane Free Free to body entries so_far.walk talks.walk;
-  dry = dry_behind body entries (course.pieces + course.idles) 1 (pieces + idles) so_far.dry (omega (arith, dry)) one;
+  dry = dry_behind body entries (course.pieces + course.paused) 1 (pieces + paused) so_far.dry (omega (arith, dry)) one;
   few = few;
-  quiet = rose_later idles course.line.idles l.idles m.idles quiet talks.carries.idles;
+  quiet = rises_kept course.idles course.line.idles l.idles m.idles so_far.quiet talks.idles;
   grows = grows_then course.seat o n body entries so_far.grows talks.grows;
   takes = so_far.takes;
   carries = carries_sent tells course.line l m received sent more so_far.carries talks.carries;

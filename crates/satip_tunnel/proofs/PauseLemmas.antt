@@ -7,14 +7,15 @@ use Rattle.satip_interleave.specs.declared.events.TunnelEvent.TheVariants.{Enter
 use Rattle.satip_interleave.specs.declared.events.TunnelAnswer.{TunnelAnswer}
 use Rattle.satip_interleave.specs.Histories.{TunnelItem, inner_by, inners}
 use Rattle.satip_plain.specs.Histories.{Item}
-use Rattle.satip_pump.specs.PumpRuns.{RoseBy}
-use Rattle.satip_pump.proofs.ReadingLemmas.{rose_none}
+use Rattle.satip_world.specs.Pausing.{RisesBy}
+use Rattle.satip_world.proofs.PausingLemmas.{rises_none}
+use Rattle.satip_worker.specs.Pauses.{PausesServed}
 use Rattle.satip_tunnel.specs.declared.ends.TunnelEnd.{TunnelEnd}
 use Rattle.satip_tunnel.specs.declared.ends.TunnelEnd.TheVariants.{Full, Broken, Done, ReadFault, WriteFault, Spent}
 use Rattle.satip_tunnel.specs.Ends.{IsLeave}
 use Rattle.satip_tunnel.specs.Events.{MadeOne, UnmadeEvent}
 use Rattle.satip_tunnel.specs.Hearing.{Course, Finishes, Left, Talked, Unleft, talk_at}
-use Rattle.satip_tunnel.specs.Pauses.{PausesIdle, dry_in, one_if_dry}
+use Rattle.satip_tunnel.specs.Pauses.{Paused, PausesIdle, dry_in, one_if_dry, spared_at}
 use Rattle.satip_tunnel.specs.Seats.{Seat}
 use Rattle.satip_world.specs.Lines.{Line}
 
@@ -86,17 +87,72 @@ enter_dry t is = ap (λ (e : TunnelEvent). one_if_dry e t.answer) is
 enter_inner : (t : TunnelItem) → t.event ≡ Enter → inner_by t.caller t.event t.answer t.out ≡ []
 enter_inner t is = ap (λ (e : TunnelEvent). inner_by t.caller e t.answer t.out) is
 
+-- ---- the receives that no pause followed
+
+-- there was none
+pub paused_all : (end : TunnelEnd) (idles p r : ℕ) → RisesBy idles p r → Paused end idles idles p r
+paused_all end idles p r rises = record { least = omega arith; most = omega arith; pauses = rises }
+
+-- the last one
+pub paused_but_last : (end : TunnelEnd) (paused p r : ℕ) → spared_at end ≡ 1 → RisesBy paused p r → Paused end (paused + 1) paused p r
+paused_but_last end paused p r spared rises = record { least = omega (arith, spared); most = omega arith; pauses = rises }
+
+-- giving the lane up leaves out no pause
+spared_more : (lane : ℕ) (o n : Seat) (before after : TunnelEnd) → Finishes lane o n before after → spared_at before ≤ spared_at after
+spared_more lane o n Full after finishes = omega arith
+spared_more lane o n Broken after (inl left) = let same : spared_at after ≡ 1 = ap (λ (e : TunnelEnd). spared_at e) left.end in omega (arith, same)
+spared_more lane o n Broken after (inr unleft) = let same : spared_at after ≡ 1 = ap (λ (e : TunnelEnd). spared_at e) unleft.end in omega (arith, same)
+spared_more lane o n Done after finishes = omega arith
+spared_more lane o n ReadFault after finishes = omega arith
+spared_more lane o n WriteFault after (inl left) = let same : spared_at after ≡ 1 = ap (λ (e : TunnelEnd). spared_at e) left.end in omega (arith, same)
+spared_more lane o n WriteFault after (inr unleft) = let same : spared_at after ≡ 1 = ap (λ (e : TunnelEnd). spared_at e) unleft.end in omega (arith, same)
+spared_more lane o n Spent after finishes = let same : spared_at after ≡ 1 = ap (λ (e : TunnelEnd). spared_at e) finishes.0 in omega (arith, same)
+
+-- at most one at each end
+spared_once : (end : TunnelEnd) → spared_at end ≤ 1
+spared_once Full = omega arith
+spared_once Broken = omega arith
+spared_once Done = omega arith
+spared_once ReadFault = omega arith
+spared_once WriteFault = omega arith
+spared_once Spent = omega arith
+
+pub served_tunnel : (tells : Type 0) (own own' : List TunnelItem) (l m : Line) (p r : ℕ) (end : TunnelEnd) → PausesIdle tells own own' l m p r end
+    → PausesServed 1 l m p r
+served_tunnel tells own own' l m p r end x =
+    let least = x.served.least in
+    record {
+      idles = x.served.idles;
+      found = x.served.found;
+      paused = x.served.paused;
+      least = omega (arith, least, spared_once end);
+      most = x.served.most;
+      pauses = x.served.pauses;
+    }
+
+-- nothing came in
+served_none : (spared : ℕ) (l : Line) (p : ℕ) → PausesServed spared l l p p
+served_none spared l p = record {
+  idles = 0;
+  found = rises_none l.idles;
+  paused = 0;
+  least = omega arith;
+  most = omega arith;
+  pauses = rises_none p;
+}
+
 -- a connection that was given a lane
 module _ (tells : Type 0) (course : Course) (o q n : Seat) (m : Line) (c : ChaCha) (answer : TunnelAnswer) (before after : TunnelEnd) (p r : ℕ) where
-  pub lane_pauses : MadeOne o course.seat Enter answer → Talked tells course (talk_at q m c) before → Finishes course.lane q n before after → RoseBy course.idles p r
-      → PausesIdle tells o.pass.own n.pass.own course.line m p r
-  lane_pauses one talked finishes rose =
+  pub lane_pauses : MadeOne o course.seat Enter answer → Talked tells course (talk_at q m c) before → Finishes course.lane q n before after
+      → Paused before course.idles course.paused p r → PausesIdle tells o.pass.own n.pass.own course.line m p r after
+  lane_pauses one talked finishes paused =
       let t : TunnelItem = one.item in
       let body : List TunnelItem = talked.first.body in
       let dry = talked.first.so_far.dry in
       let end = finish_last course.lane q n before after finishes in
       let first = enter_dry t one.event_is in
       let none_dry = end.dry in
+      let least = paused.least in
       let sum : length (inners (t ∷ (body ++ end.last))) ≡ length (inners body) =
       ap (λ (h : List Item). length h)
       (ap (λ (h : List Item). h ++ inners (body ++ end.last)) (enter_inner t one.event_is)
@@ -111,15 +167,20 @@ module _ (tells : Type 0) (course : Course) (o q n : Seat) (m : Line) (c : ChaCh
         content = talked.first.so_far.carries.content.received;
         pieces = course.pieces;
         few = talked.first.so_far.few;
-        idles = course.idles;
+        served = record {
+          idles = course.idles;
+          found = talked.first.so_far.quiet;
+          paused = course.paused;
+          least = omega (arith, least, spared_more course.lane q n before after finishes);
+          most = paused.most;
+          pauses = paused.pauses;
+        };
         dry = omega (arith, first, dry, none_dry, sum, dry-append body end.last);
-        quiet = talked.first.so_far.quiet;
-        pauses = rose;
       }
 
 -- one that was given none
 module _ (tells : Type 0) (o n : Seat) (l : Line) (p : ℕ) where
-  pub turned_away_pauses : (answer : TunnelAnswer) → MadeOne o n Enter answer → PausesIdle tells o.pass.own n.pass.own l l p p
+  pub turned_away_pauses : (answer : TunnelAnswer) → MadeOne o n Enter answer → PausesIdle tells o.pass.own n.pass.own l l p p Full
   turned_away_pauses answer one =
       let first = enter_dry one.item one.event_is in
       record {
@@ -129,13 +190,11 @@ module _ (tells : Type 0) (o n : Seat) (l : Line) (p : ℕ) where
         content = λ _. sym (append-nil l.received);
         pieces = 0;
         few = omega arith;
-        idles = 0;
+        served = served_none 0 l p;
         dry = omega (arith, first);
-        quiet = rose_none l.idles;
-        pauses = rose_none p;
       }
 
-  pub unentered_pauses : UnmadeEvent o n → PausesIdle tells o.pass.own n.pass.own l l p p
+  pub unentered_pauses : UnmadeEvent o n → PausesIdle tells o.pass.own n.pass.own l l p p Spent
   unentered_pauses unmade = record {
     entries = [];
     made = unmade.grows.own;
@@ -143,8 +202,6 @@ module _ (tells : Type 0) (o n : Seat) (l : Line) (p : ℕ) where
     content = λ _. sym (append-nil l.received);
     pieces = 0;
     few = omega arith;
-    idles = 0;
+    served = served_none 1 l p;
     dry = omega arith;
-    quiet = rose_none l.idles;
-    pauses = rose_none p;
   }

@@ -8,11 +8,11 @@ use Rattle.satip_rtsp_interleaved.specs.Held.{Held, new_parter}
 use Rattle.satip_rtsp_interleaved.proofs.PartLemmas.{empty_ends}
 use Rattle.satip_rtsp.specs.declared.requests.Request.{Request}
 use Rattle.satip_rtsp.specs.Asked.{broken_request}
-use Rattle.satip_pump.specs.PumpRuns.{RoseBy}
-use Rattle.satip_pump.proofs.ReadingLemmas.{rose_none, rose_one, rose_later}
 use Rattle.satip_world.specs.Lines.{Line, GotBytes, WasIdle, InputEnded, ReceiveFailed}
+use Rattle.satip_world.proofs.PausingLemmas.{rises_none, rises_once}
 use Rattle.satip_worker.specs.Progress.{Carries, SameFaults}
-use Rattle.satip_worker.proofs.ProgressLemmas.{calm_counts, calm_from, calm_idle, calm_then, carries_nothing, carries_received, carries_on, rises_from}
+use Rattle.satip_worker.proofs.PauseLemmas.{rises_kept}
+use Rattle.satip_worker.proofs.ProgressLemmas.{calm_counts, calm_from, calm_idle, calm_then, carries_nothing, carries_got, carries_idle, carries_on, rises_from}
 use Rattle.satip_tunnel.specs.declared.ends.Heard.{Heard}
 use Rattle.satip_tunnel.specs.declared.ends.Heard.TheVariants.{All as heard_all, Broken as heard_broken, Lost as heard_lost, Spent as heard_spent}
 use Rattle.satip_tunnel.specs.declared.ends.TunnelEnd.TheVariants.{Broken, Done, ReadFault, WriteFault, Spent}
@@ -27,9 +27,13 @@ use Rattle.satip_tunnel.proofs.DrawLemmas.{takes_none}
 use Rattle.satip_tunnel.proofs.WalkLemmas.{wire-append, in_part_behind}
 use Rattle.satip_tunnel.proofs.HearingLemmas.{asks_all, so_far_drained, so_far_counted, course_after, events_drained, over_drained}
 
+-- one receive more found nothing
+abbrev pub course_idle : Course → Course
+course_idle course = record course { idles = course.idles + 1 }
+
 -- nothing came in yet
 abbrev pub course_from : (lane : ℕ) → ChaCha → Seat → Line → Course
-course_from lane draws seat line = record { lane = lane; draws = draws; seat = seat; line = line; pieces = 0; idles = 0 }
+course_from lane draws seat line = record { lane = lane; draws = draws; seat = seat; line = line; pieces = 0; idles = 0; paused = 0 }
 
 pub listens_from : (tells : Type 0) (lane : ℕ) (draws : ChaCha) (seat : Seat) (line : Line) (parter : Held) → parter ≡ new_parter
     → Listens tells (course_from lane draws seat line) (talk_at seat line draws) [] [] parter
@@ -47,7 +51,7 @@ listens_from tells lane draws seat line parter new = record {
       walk = refl;
       dry = omega arith;
       few = omega arith;
-      quiet = rose_none line.idles;
+      quiet = rises_none line.idles;
       grows = grows_none seat;
       takes = takes_none draws;
       carries = carries_nothing tells line;
@@ -58,9 +62,9 @@ listens_from tells lane draws seat line parter new = record {
 
 module _ (tells : Type 0) (course : Course) (n : Seat) (m m' : Line) (c : ChaCha) (text : List ℕ) (parter : Held)
     (listens : Listens tells course (talk_at n m c) text text parter) where
-  -- the line went on
-  listens_line : (received : List ℕ) → Carries tells m m' received [] → SameFaults m m' → Listens tells course (talk_at n m' c) (text ++ received) text parter
-  listens_line received carries calm =
+  -- some bytes came in
+  pub listens_got : (buf : List ℕ) (count : ℕ) → GotBytes tells m m' buf count → Listens tells course (talk_at n m' c) (text ++ take count buf) text parter
+  listens_got buf count got =
       let s = listens.stands in
       record {
         messages = listens.messages;
@@ -75,24 +79,15 @@ module _ (tells : Type 0) (course : Course) (n : Seat) (m m' : Line) (c : ChaCha
           so_far = record {
             walk = s.so_far.walk;
             dry = s.so_far.dry;
-            few = let few = s.so_far.few in omega (arith, few, length-append text received);
-            quiet = rose_later course.idles course.line.idles m.idles m'.idles s.so_far.quiet carries.idles;
+            few = let few = s.so_far.few in omega (arith, few, length-append text (take count buf));
+            quiet = rises_kept course.idles course.line.idles m.idles m'.idles s.so_far.quiet got.counts.idles;
             grows = s.so_far.grows;
             takes = s.so_far.takes;
-            carries = carries_received tells course.line m m' text _ received s.so_far.carries carries;
+            carries = carries_got tells course.line m m' text (wire s.body) buf count s.so_far.carries got;
           };
-          calm = calm_then course.line m m' s.calm calm;
+          calm = calm_then course.line m m' s.calm (calm_counts m m' got.counts);
         };
       }
-
-  -- some bytes came in
-  pub listens_got : (buf : List ℕ) (count : ℕ) → GotBytes tells m m' buf count → Listens tells course (talk_at n m' c) (text ++ take count buf) text parter
-  listens_got buf count got = listens_line (take count buf) (record {
-    content = got.content;
-    idles = omega (arith, got.counts.idles);
-    receive_faults = omega (arith, got.counts.receive_faults);
-    send_faults = omega (arith, got.counts.send_faults);
-  }) (calm_counts m m' got.counts)
 
   -- each piece counted has at least one of the bytes before them
   pub few_got : (buf : List ℕ) (count : ℕ) → GotBytes tells m m' buf count → course.pieces < length (text ++ take count buf)
@@ -101,34 +96,46 @@ module _ (tells : Type 0) (course : Course) (n : Seat) (m m' : Line) (c : ChaCha
       let some = got.some in
       omega (arith, few, some, length-append text (take count buf), length-take-le count buf got.within)
 
-  -- the connection was idle once more
-  pub quiet_idle : WasIdle tells m m' → RoseBy (course.idles + 1) course.line.idles m'.idles
-  quiet_idle idle = rose_one course.idles course.line.idles m.idles m'.idles listens.stands.so_far.quiet idle.idles
-
   -- nothing came in
-  pub listens_idle : WasIdle tells m m' → Listens tells course (talk_at n m' c) text text parter
+  pub listens_idle : WasIdle tells m m' → Listens tells (course_idle course) (talk_at n m' c) text text parter
   listens_idle idle =
-      let P : List ℕ → Type 0 = λ t. Listens tells course (talk_at n m' c) t text parter in
-      subst P (append-nil text) (listens_line [] (record {
-        content = idle.content;
-        idles = idle.idles.kept;
-        receive_faults = omega (arith, idle.receive_faults);
-        send_faults = omega (arith, idle.send_faults);
-      }) (calm_idle tells m m' idle))
+      let s = listens.stands in
+      record {
+        messages = listens.messages;
+        read = listens.read;
+        stands = record {
+          leads = s.leads;
+          body = s.body;
+          draws = s.draws;
+          counted = s.counted;
+          events = s.events;
+          unended = s.unended;
+          so_far = record {
+            walk = s.so_far.walk;
+            dry = s.so_far.dry;
+            few = s.so_far.few;
+            quiet = rises_once course.idles course.line.idles m.idles m'.idles s.so_far.quiet idle.idles idle.one_idle;
+            grows = s.so_far.grows;
+            takes = s.so_far.takes;
+            carries = carries_on tells course.line m m' text (wire s.body) s.so_far.carries (carries_idle tells m m' idle);
+          };
+          calm = calm_then course.line m m' s.calm (calm_idle tells m m' idle);
+        };
+      }
 
   -- the requests of what was received
   all_asked : AsksInParts text (map asked_by_tunnel listens.messages ++ [])
   all_asked = asks_all text listens.messages Unfinished listens.read
 
   -- what was made, where the line went on
-  so_far_on : Carries tells m m' [] [] → SoFar tells course (talk_at n m' c) text (wire listens.stands.body) Free listens.stands.body listens.stands.draws
-  so_far_on carries =
+  so_far_on : Carries tells m m' [] [] → m'.idles ≡ m.idles → SoFar tells course (talk_at n m' c) text (wire listens.stands.body) Free listens.stands.body listens.stands.draws
+  so_far_on carries same =
       let s = listens.stands in
       record {
         walk = s.so_far.walk;
         dry = s.so_far.dry;
         few = s.so_far.few;
-        quiet = rose_later course.idles course.line.idles m.idles m'.idles s.so_far.quiet carries.idles;
+        quiet = rises_kept course.idles course.line.idles m.idles m'.idles s.so_far.quiet same;
         grows = s.so_far.grows;
         takes = s.so_far.takes;
         carries = carries_on tells course.line m m' text (wire s.body) s.so_far.carries carries;
@@ -158,7 +165,7 @@ module _ (tells : Type 0) (course : Course) (n : Seat) (m m' : Line) (c : ChaCha
             idles = omega (arith, ended.counts.idles);
             receive_faults = omega (arith, ended.counts.receive_faults);
             send_faults = omega (arith, ended.counts.send_faults);
-          });
+          }) ended.counts.idles;
         };
         line_ends = record {
           is_over = inl (ended.after, s.unended);
@@ -191,7 +198,7 @@ module _ (tells : Type 0) (course : Course) (n : Seat) (m m' : Line) (c : ChaCha
             idles = omega (arith, failed.idles);
             receive_faults = failed.receive_faults.kept;
             send_faults = omega (arith, failed.send_faults);
-          });
+          }) failed.idles;
         };
         line_ends = record {
           goes_on = failed.after;
@@ -207,11 +214,11 @@ module _ (tells : Type 0) (course : Course) (n : Seat) (m m' : Line) (c : ChaCha
 module _ (tells : Type 0) (course : Course) (o n : Seat) (l m : Line) (c : ChaCha) (received text : List ℕ) (parter : Held)
     (listens : Listens tells course (talk_at o l c) received text parter) where
   -- all frames were sent
-  listens_counted : (pieces idles : ℕ) → pieces + idles ≡ (course.pieces + course.idles) + 1 → pieces ≤ length received → RoseBy idles course.line.idles l.idles
-      → Drains tells course.lane (conn_at o l) (conn_at n m) Free Free → Listens tells (course_after course pieces idles) (talk_at n m c) received text parter
-  listens_counted pieces idles one few quiet d =
+  listens_counted : (pieces paused : ℕ) → pieces + paused ≡ (course.pieces + course.paused) + 1 → pieces ≤ length received
+      → Drains tells course.lane (conn_at o l) (conn_at n m) Free Free → Listens tells (course_after course pieces paused) (talk_at n m c) received text parter
+  listens_counted pieces paused one few d =
       let s = listens.stands in
-      let P : List ℕ → Type 0 = λ w. SoFar tells (course_after course pieces idles) (talk_at n m c) received w Free (s.body ++ d.entries) s.draws in
+      let P : List ℕ → Type 0 = λ w. SoFar tells (course_after course pieces paused) (talk_at n m c) received w Free (s.body ++ d.entries) s.draws in
       record {
         messages = listens.messages;
         read = listens.read;
@@ -223,7 +230,7 @@ module _ (tells : Type 0) (course : Course) (o n : Seat) (l m : Line) (c : ChaCh
           events = events_drained s.body d.entries _ s.events d.none_asked;
           unended = over_drained s.body d.entries d.none_asked ∙ s.unended;
           so_far = subst P (sym (wire-append s.body d.entries))
-              (so_far_counted tells course o n l m c received (wire s.body) s.body s.draws s.so_far pieces idles one few quiet Free d.entries (wire d.entries)
+              (so_far_counted tells course o n l m c received (wire s.body) s.body s.draws s.so_far pieces paused one few Free d.entries (wire d.entries)
               d.talks d.dry);
           calm = calm_then course.line l m s.calm d.calm;
         };
@@ -231,14 +238,14 @@ module _ (tells : Type 0) (course : Course) (o n : Seat) (l m : Line) (c : ChaCh
 
   -- after a piece
   listens_after : course.pieces < length received → Drains tells course.lane (conn_at o l) (conn_at n m) Free Free
-      → Listens tells (course_after course (course.pieces + 1) course.idles) (talk_at n m c) received text parter
+      → Listens tells (course_after course (course.pieces + 1) course.paused) (talk_at n m c) received text parter
   listens_after more d =
-      listens_counted (course.pieces + 1) course.idles (omega arith) (omega (arith, more)) listens.stands.so_far.quiet d
+      listens_counted (course.pieces + 1) course.paused (omega arith) (omega (arith, more)) d
 
   -- where nothing came in; the connection pauses then
-  pub listens_drained : RoseBy (course.idles + 1) course.line.idles l.idles → Drains tells course.lane (conn_at o l) (conn_at n m) Free Free
-      → Listens tells (course_after course course.pieces (course.idles + 1)) (talk_at n m c) received text parter
-  listens_drained quiet d = listens_counted course.pieces (course.idles + 1) (omega arith) listens.stands.so_far.few quiet d
+  pub listens_drained : Drains tells course.lane (conn_at o l) (conn_at n m) Free Free
+      → Listens tells (course_after course course.pieces (course.paused + 1)) (talk_at n m c) received text parter
+  listens_drained d = listens_counted course.pieces (course.paused + 1) (omega arith) listens.stands.so_far.few d
 
   -- the lane is broken
   pub drains_to_break : Drains tells course.lane (conn_at o l) (conn_at n m) Free Over → MadeFirst tells course (talk_at n m c) received text Broken

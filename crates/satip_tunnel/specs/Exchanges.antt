@@ -27,6 +27,7 @@ pub record Talks (tells : Type 0) (lane : ℕ) (o n : ConnState) (from to : Stan
   pub grows : Grows o.seat n.seat entries
   pub carries : Carries tells o.line n.line [] sent
   pub input : n.line.ended ≡ o.line.ended
+  pub idles : n.line.idles ≡ o.line.idles
 
 -- the lane was drained; at most the last drain found no frame, and no receive and no send failed
 pub record Drains (tells : Type 0) (lane : ℕ) (o n : ConnState) (from to : Stance) : Type 0 where

@@ -12,9 +12,9 @@ use Rattle.satip_rtsp_interleaved.specs.Held.{Held, IsReadUpTo}
 use Rattle.satip_rtsp.specs.declared.requests.Request.{Request}
 use Rattle.satip_rtsp.specs.Asked.{broken_request}
 use Rattle.satip_interleave.specs.Histories.{TunnelItem, inners}
-use Rattle.satip_pump.specs.PumpRuns.{RoseBy}
 use Rattle.satip_world.specs.Counts.{Rises}
 use Rattle.satip_world.specs.Lines.{Line}
+use Rattle.satip_world.specs.Pausing.{RisesBy}
 use Rattle.satip_worker.specs.Answers.{ends_with_last}
 use Rattle.satip_worker.specs.Progress.{Carries, SameFaults}
 use Rattle.satip_tunnel.specs.declared.ends.Heard.{Heard}
@@ -29,7 +29,7 @@ use Rattle.satip_tunnel.specs.Requests.{AsksInParts, TakesDraws, asked_events, d
 use Rattle.satip_tunnel.specs.Seats.{ConnState, Seat, Grows, SeesFull, conn_at}
 
 -- the start of a connection after its Enter: its lane, and the states of the draws, the caller and the connection. And since then: the number of pieces that
--- completed no message and were drained after, and the number of pauses
+-- completed no message and were drained after, the number of receives that found nothing, and the number of pauses
 pub record Course : Type 0 where
   pub lane : ℕ
   pub draws : ChaCha
@@ -37,6 +37,7 @@ pub record Course : Type 0 where
   pub line : Line
   pub pieces : ℕ
   pub idles : ℕ
+  pub paused : ℕ
 
 -- a connection: its caller and its line, and the state of the draws
 pub record TalkState : Type 0 where
@@ -51,9 +52,9 @@ talk_at seat line draws = record { conn = conn_at seat line; draws = draws }
 pub record SoFar (tells : Type 0) (course : Course) (n : TalkState) (received sent : List ℕ)
     (stance : Stance) (body : List TunnelItem) (draws : List Draw) : Type 0 where
   pub walk : Walk course.lane Free body stance
-  pub dry : dry_in body ≤ length (inners body) + (course.pieces + course.idles)
+  pub dry : dry_in body ≤ length (inners body) + (course.pieces + course.paused)
   pub few : course.pieces ≤ length received
-  pub quiet : RoseBy course.idles course.line.idles n.conn.line.idles
+  pub quiet : RisesBy course.idles course.line.idles n.conn.line.idles
   pub grows : Grows course.seat n.conn.seat body
   pub takes : TakesDraws course.draws draws n.draws
   pub carries : Carries tells course.line n.conn.line received sent

@@ -12,7 +12,6 @@ pub mod Exchanges
 pub mod Hearing
 pub mod Rows
 pub mod Silences
-pub mod Kits
 pub mod ConnRun
 pub mod WorkerRun
 pub mod WorkerRows

@@ -5,8 +5,11 @@ use Rattle.satip_interleave.specs.declared.events.TunnelEvent.TheVariants.{Drain
 use Rattle.satip_interleave.specs.declared.events.TunnelAnswer.{TunnelAnswer}
 use Rattle.satip_interleave.specs.declared.events.TunnelAnswer.TheVariants.{Empty, Gone}
 use Rattle.satip_interleave.specs.Histories.{TunnelItem, inners}
-use Rattle.satip_pump.specs.PumpRuns.{RoseBy}
 use Rattle.satip_world.specs.Lines.{Line}
+use Rattle.satip_world.specs.Pausing.{RisesBy}
+use Rattle.satip_worker.specs.Pauses.{PausesServed}
+use Rattle.satip_tunnel.specs.declared.ends.TunnelEnd.{TunnelEnd}
+use Rattle.satip_tunnel.specs.declared.ends.TunnelEnd.TheVariants.{Full, Broken, Done, ReadFault, WriteFault, Spent}
 use Rattle.satip_tunnel.specs.Walk.{Stance, Free, Draining, Over}
 
 -- 1 for a drain that found no frame
@@ -26,16 +29,29 @@ dry_at Free = 1
 dry_at Draining = 0
 dry_at Over = 0
 
--- the drains of a connection that found no frame: at most one after each request, one after each of some pieces that completed no message, and one at each of
--- some receives that found nothing, with a pause after it. Each piece has at least one of the bytes received
-pub record PausesIdle (tells : Type 0) (own own' : List TunnelItem) (l m : Line) (before after : ℕ) : Type 0 where
+-- 1 if the last receive may have found nothing without a pause after it: its drain ended the connection, or the history was full
+abbrev pub spared_at : TunnelEnd → ℕ
+spared_at Full = 0
+spared_at Broken = 1
+spared_at Done = 0
+spared_at ReadFault = 0
+spared_at WriteFault = 1
+spared_at Spent = 1
+
+-- of `idles` receives that found nothing, `paused` were followed by a pause: all, but at some ends the last one
+pub record Paused (end : TunnelEnd) (idles paused before after : ℕ) : Type 0 where
+  pub least : idles ≤ paused + spared_at end
+  pub most : paused ≤ idles
+  pub pauses : RisesBy paused before after
+
+-- a connection paused once after each receive that found nothing, but at some ends not after the last one. The drains that found no frame: at most one after
+-- each request, one after each of some pieces that completed no message, and one before each pause. Each piece has at least one of the bytes received
+pub record PausesIdle (tells : Type 0) (own own' : List TunnelItem) (l m : Line) (before after : ℕ) (end : TunnelEnd) : Type 0 where
   pub entries : List TunnelItem
   pub made : own' ≡ own ++ entries
   pub received : List ℕ
   pub content : tells → m.received ≡ l.received ++ received
   pub pieces : ℕ
   pub few : pieces ≤ length received
-  pub idles : ℕ
-  pub dry : dry_in entries ≤ length (inners entries) + pieces + idles
-  pub quiet : RoseBy idles l.idles m.idles
-  pub pauses : RoseBy idles before after
+  pub served : PausesServed (spared_at end) l m before after
+  pub dry : dry_in entries ≤ length (inners entries) + pieces + served.paused

@@ -3,11 +3,10 @@ ghost use Rattle.std.specs.Prelude.{◌≡◌, ◌⊎◌, ℕ};
 ghost use Rattle.satip_base.specs.Lists.{Begins};
 ghost use Rattle.satip_rtsp_interleaved.specs.Held.{new_parter};
 ghost use Rattle.satip_turn.specs.Shown.{Keeps};
-ghost use Rattle.satip_pump.specs.PumpRuns.{RoseBy};
 ghost use Rattle.satip_tunnel.specs.Causes.{HasCause};
 ghost use Rattle.satip_tunnel.specs.Ends.{unleft_end};
 ghost use Rattle.satip_tunnel.specs.Hearing.{Talked, Left, Unleft, Finishes, talk_at};
-ghost use Rattle.satip_tunnel.specs.Pauses.{PausesIdle};
+ghost use Rattle.satip_tunnel.specs.Pauses.{Paused, PausesIdle};
 ghost use Rattle.satip_tunnel.specs.Seats.{seated, made_since, SeesFull};
 ghost use Rattle.satip_tunnel.specs.Served.{ServesTunnel};
 
@@ -33,8 +32,8 @@ fn talk<R: Wait + Sync, C: Conn, P: Pacer>(
     room: &mut TunnelRoom,
 ) -> TunnelEnd
     requires new { room.old.parter ≡ new_parter }
-    ensures talked { (pieces : ℕ) × (idles : ℕ)
-        × RoseBy idles (P.pauses pacer.old) (P.pauses pacer.new)
+    ensures talked { (pieces : ℕ) × (idles : ℕ) × (paused : ℕ)
+        × Paused result idles paused (P.pauses pacer.old) (P.pauses pacer.new)
         × Talked C.tells (record {
           lane = lane;
           draws = draws.old;
@@ -42,6 +41,7 @@ fn talk<R: Wait + Sync, C: Conn, P: Pacer>(
           line = C.line conn.old;
           pieces = pieces;
           idles = idles;
+          paused = paused;
         }) (talk_at (seated caller.new.server.now caller.new.pass) (C.line conn.new) draws.new)
         result }
 {
@@ -148,10 +148,11 @@ pub fn serve_tunnel<R: Wait + Sync, C: Conn, P: Pacer>(
         (seated caller.new.server.now caller.new.pass)
         (C.line conn.old) (C.line conn.new) result }
 
-    // The pauses: one for each drain that found no frame, except after a request, and after a piece
-    // that completed no message.
+    // The pauses: one after each receive that found nothing, unless the drain after the last such
+    // receive ended the connection. And no more drains than that found no frame, except after a
+    // request, and after a piece that completed no message.
     ensures pauses { PausesIdle C.tells caller.old.pass.own caller.new.pass.own
-        (C.line conn.old) (C.line conn.new) (P.pauses pacer.old) (P.pauses pacer.new) }
+        (C.line conn.old) (C.line conn.new) (P.pauses pacer.old) (P.pauses pacer.new) result }
 
     // The cause of the end.
     ensures cause { HasCause result (made_since caller.old.pass caller.new.pass)
@@ -174,7 +175,7 @@ fn serve<R: Wait + Sync, C: Conn, P: Pacer>(
         (seated caller.new.server.now caller.new.pass)
         (C.line conn.old) (C.line conn.new) result }
     ensures pauses { PausesIdle C.tells caller.old.pass.own caller.new.pass.own
-        (C.line conn.old) (C.line conn.new) (P.pauses pacer.old) (P.pauses pacer.new) }
+        (C.line conn.old) (C.line conn.new) (P.pauses pacer.old) (P.pauses pacer.new) result }
 {
     match enter(caller, &mut room.out) {
         Entered::Lane(lane) => {

@@ -13,8 +13,6 @@ mod ends;
 mod events;
 mod exchanges;
 mod hearing;
-mod kits;
-mod lists;
 mod room;
 #[rattlefmt::skip]
 #[tactic(auto, unfolding(
@@ -32,8 +30,6 @@ mod worker_examples;
 pub use connection::serve_tunnel;
 pub use connection_examples::{worked_causes, worked_rows};
 pub use ends::TunnelEnd;
-pub use kits::{silence_ticker, sound_ticker};
-pub use lists::{silence_pumps, silence_workers, sound_pumps, sound_workers};
 pub use room::WorkerRoom;
 pub use silent::Silent;
 pub use worker::run_tunnel_worker;

@@ -3,6 +3,7 @@ ghost use Rattle.std.specs.Prelude.{◌≡◌, ◌≢◌, ◌↔◌, ℕ, List, 
 ghost use Rattle.satip_base.specs.Lists.{Begins};
 ghost use Rattle.satip_turn.specs.Shown.{Keeps};
 ghost use Rattle.satip_tunnel.specs.Seats.{seated};
+ghost use Rattle.satip_worker.specs.DoorPauses.{PausesAtDoors, PausesOne};
 ghost use Rattle.satip_worker.specs.Drawing.{before_draw, draw_at};
 ghost use Rattle.satip_world.specs.Counts.{Rises};
 ghost use Rattle.satip_world.specs.Halls.{IsAtLimit};
@@ -42,6 +43,9 @@ fn serve_one<R: Wait + Sync, D: Doors, O, P: Pacer>(
           hall = D.hall kit.new.doors;
         })
         (record { kind = kind; peer = peer; line = D.Conn.line conn }) result }
+    ensures pauses { PausesOne 1 (D.Conn.line conn) (D.hall kit.old.doors) (D.hall kit.new.doors)
+        (record { kind = kind; peer = peer }) result (P.pauses kit.old.pacer)
+        (P.pauses kit.new.pacer) }
     ensures spent { result ≡ ConnEnd.Spent → length caller.new.pass.seen ≡ LONGEST_HISTORY }
     ensures no_want { result ≢ ConnEnd.Want }
 {
@@ -81,6 +85,11 @@ pub fn run_tunnel_worker<R: Wait + Sync, D: Doors, O, P: Pacer>(
           seat = seated caller.new.server.now caller.new.pass;
           hall = D.hall kit.new.doors;
         }) result }
+
+    // The pauses: one for each time that no connection came, and one for each receive of a
+    // connection that found nothing, except at most one of each connection.
+    ensures pauses { PausesAtDoors 1 (D.hall kit.old.doors) (D.hall kit.new.doors)
+        (P.pauses kit.old.pacer) (P.pauses kit.new.pacer) }
 
     // The cause of each end.
     ensures closed { (result ≡ WorkerEnd.Closed) ↔ ((D.hall kit.new.doors).ended ≡ true) }

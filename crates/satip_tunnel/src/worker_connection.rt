@@ -3,6 +3,7 @@ ghost use Rattle.std.specs.Prelude.{◌≡◌, ◌≢◌, ℕ, List, length};
 ghost use Rattle.satip_base.specs.declared.network.Peer.{Peer};
 ghost use Rattle.satip_tunnel.specs.Seats.{seated};
 ghost use Rattle.satip_worker.specs.Drawing.{before_draw, draw_at};
+ghost use Rattle.satip_worker.specs.Pauses.{PausesServed};
 ghost use Rattle.satip_tunnel.specs.ConnRun.{ServesConn, conn_end};
 
 use crate::connection::serve_tunnel;
@@ -45,6 +46,8 @@ fn serve_rtsp<R: Wait + Sync, C: Conn, P: Pacer>(
         (seated caller.old.server.now caller.old.pass)
         (seated caller.new.server.now caller.new.pass) (C.line conn.old)
         (record { kind = DoorKind.Rtsp; peer = peer; line = C.line conn.new; end = result }) }
+    ensures pauses { PausesServed 1 (C.line conn.old) (C.line conn.new) (P.pauses pacer.old)
+        (P.pauses pacer.new) }
     ensures spent { result ≡ ConnEnd.Spent → length caller.new.pass.seen ≡ LONGEST_HISTORY }
     ensures no_want { result ≢ ConnEnd.Want }
 {
@@ -66,6 +69,8 @@ fn serve_http<R: Wait + Sync, C: Conn, P: Pacer>(
         (seated caller.old.server.now caller.old.pass)
         (seated caller.new.server.now caller.new.pass) (C.line conn.old)
         (record { kind = DoorKind.Http; peer = peer; line = C.line conn.new; end = result }) }
+    ensures pauses { PausesServed 1 (C.line conn.old) (C.line conn.new) (P.pauses pacer.old)
+        (P.pauses pacer.new) }
     ensures spent { result ≡ ConnEnd.Spent → length caller.new.pass.seen ≡ LONGEST_HISTORY }
     ensures no_want { result ≢ ConnEnd.Want }
 {
@@ -100,6 +105,8 @@ pub(crate) fn serve_kind<R: Wait + Sync, C: Conn, P: Pacer>(
         (seated caller.old.server.now caller.old.pass)
         (seated caller.new.server.now caller.new.pass) (C.line conn.old)
         (record { kind = kind; peer = peer; line = C.line conn.new; end = result }) }
+    ensures pauses { PausesServed 1 (C.line conn.old) (C.line conn.new) (P.pauses pacer.old)
+        (P.pauses pacer.new) }
     ensures spent { result ≡ ConnEnd.Spent → length caller.new.pass.seen ≡ LONGEST_HISTORY }
     ensures no_want { result ≢ ConnEnd.Want }
 {

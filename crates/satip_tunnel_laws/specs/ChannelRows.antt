@@ -9,7 +9,7 @@ use Rattle.satip_plain.specs.declared.events.Event.TheVariants.{Request as Asked
 use Rattle.satip_plain.specs.declared.setting.Setting.{Setting}
 use Rattle.satip_plain.specs.Histories.{Item}
 use Rattle.satip_plain.specs.Packets.{payload}
-use Rattle.satip_plain.specs.Examples.{config, draw_one, entry_of, first_query, id_of, ports, request, run}
+use Rattle.satip_plain.specs.Examples.{config, draw_one, draw_two, entry_of, first_query, id_of, ports, request, run}
 use Rattle.satip_interleave.specs.declared.events.TunnelEvent.TheVariants.{Inner, Enter}
 use Rattle.satip_interleave.specs.declared.events.TunnelAnswer.TheVariants.{Inner as InnerAnswer, Lane}
 use Rattle.satip_interleave.specs.Histories.{TunnelItem, inners}
@@ -27,6 +27,10 @@ as_tunnel e = entry e.caller (Inner e.event) (InnerAnswer e.answer) e.out
 -- a SETUP from a lane's connection, with channels 0 and 1, which are ports 1 and 2
 abbrev pub setup_from : ℕ → Event
 setup_from x = Asked (record { ip = x }) draw_one (record request { method = Setup; query = first_query; ports = Some (ports 1) })
+
+-- another session's SETUP from there, with the same channels
+abbrev pub other_setup_from : ℕ → Event
+other_setup_from x = Asked (record { ip = x }) draw_two (record request { method = Setup; query = first_query; ports = Some (ports 1) })
 
 -- a connection is given lane 1, and then these are the server's events
 abbrev pub tunnelled : List Event → List TunnelItem

@@ -3,7 +3,6 @@ mod Finishing
 mod Seating
 mod Ended
 mod WholeRuns
-mod Asides
 mod Starting
 mod RunReplying
 pub mod Wiring

@@ -12,9 +12,10 @@ use Rattle.satip_interleave.specs.declared.events.TunnelAnswer.TheVariants.{Inne
 use Rattle.satip_interleave.specs.Histories.{TunnelItem}
 use Rattle.satip_tunnel_laws.specs.LaneFrames.{lane}
 use Rattle.satip_tunnel.specs.Wire.{wire}
-use Rattle.satip_tunnel_serve.specs.Wires.{Framed, Piece, Reply, WireHasLane, WiresHaveLanes, bytes_of, frames_of, pieces, pieces_by}
+use Rattle.satip_tunnel_serve.specs.Wires.{Framed, Piece, Reply, WireHasLane, WiresHaveLanes, frames_of, pieces, pieces_by}
 use Rattle.satip_tunnel_serve.specs.RunReplies.{RunsReply}
 use Rattle.satip_tunnel_serve.specs.Splits.{AreReplies, WiresSplitOneWay, is_framed}
+use Rattle.satip_tunnel_serve.proofs.Wiring.{bytes_of, wire_is}
 use Rattle.satip_tunnel_serve.proofs.Framing.{AreFrames, DrainGives, all_give, lane_are, own_each}
 
 joined-append : (a b : List (List ℕ)) → flat_map (λ p. p) (a ++ b) ≡ flat_map (λ p. p) a ++ flat_map (λ p. p) b
@@ -117,7 +118,7 @@ wires_split_one_way one lanes reply c h before entries numbers caller x draws re
     let own : Each D (before ++ (entries ++ part.after)) = subst (Each D) part.whole (own_each D caller h (all_give h no_lanes tt legal.lanes)) in
     let mine : Each D entries = Each-append_left D entries part.after (Each-append_right D before (entries ++ part.after) own) in
     let parted = all_parted entries mine replies in
-    let joined : flat_map (λ p. p) parted.parts ≡ wire entries = parted.joined ∙ has.split in
+    let joined : flat_map (λ p. p) parted.parts ≡ wire entries = parted.joined ∙ wire_is entries in
     let frames : AreFrames has.taken = begins_frames has.taken (lane h x) has.first (lane_are x h) in
     let same : has.taken ≡ filter is_framed parted.parts =
     one has.taken (filter is_framed parted.parts) (frames_pieces has.taken frames) (frames_pieces (filter is_framed parted.parts) parted.frames)

@@ -8,16 +8,14 @@ use Rattle.satip_turn.specs.Shown.{Cell}
 use Rattle.satip_interleave.specs.Calling.{ShownPass, known_by}
 use Rattle.satip_interleave.specs.Histories.{TunnelItem}
 use Rattle.satip_world.specs.Dials.{Dial}
+use Rattle.satip_world.specs.Outboxes.{Outbox}
 use Rattle.satip_world.specs.Recordings.{StoreView}
 use Rattle.satip_jobs.specs.declared.seat.Seat.{Seat}
 use Rattle.satip_jobs.specs.Works.{IsSameSeat}
 use Rattle.satip_serve.specs.Deeds.{PumpDid, TickerDid, job_state}
 use Rattle.satip_desk.specs.Views.{pump_view, tick_view}
 use Rattle.satip_tunnel_serve.specs.Deeds.{SeatDid, pump_deed, ticker_deed}
-use Rattle.satip_tunnel.specs.declared.silent.Silent.{Silent}
-use Rattle.satip_tunnel.specs.Kits.{silent_outbox}
 use Rattle.satip_tunnel_serve.specs.Services.{PumpedAtSeat, ServesInTunnel, TickedAtSeat}
-use Rattle.satip_tunnel_serve.proofs.Unheard.{pump_unheard, ticker_unheard}
 
 module _ {X : Type 0} (known : X → Known) (may_want : X → Bool) (same : X → X → Type 0) (cell : X → Cell Setting) (pass : X → ShownPass)
     (legal : Setting → List TunnelItem → Type 0) (is_stop : TunnelItem → Type 0) (serves : ServesInTunnel known may_want same cell pass legal is_stop) where
@@ -26,36 +24,34 @@ module _ {X : Type 0} (known : X → Known) (may_want : X → Bool) (same : X �
       let caller = serves.same_caller x.caller y.caller is in
       record { cell_is = caller.server; keeps = caller.pass; number = number }
 
-  pub pumped_at_seat : {M P L : Type 0} (shelf : M → StoreView) (x y : Seat X (PumpKit M Silent P) L) → PumpedAtSeat same known shelf x y
-      → SeatDid cell pass (pump_deed shelf) x y
-  pumped_at_seat shelf x y did = record {
+  pub pumped_at_seat : {M O P L : Type 0} (shelf : M → StoreView) (outbox : O → Outbox) (x y : Seat X (PumpKit M O P) L)
+      → PumpedAtSeat same known shelf outbox x y → SeatDid cell pass (pump_deed (pump_view shelf outbox)) x y
+  pumped_at_seat shelf outbox x y did = record {
     still = still_seated x y did.same_is did.number;
     deed = record {
-      pumped = pump_unheard x.number (pump_view shelf silent_outbox x.kit) (pump_view shelf silent_outbox y.kit) (known_by (pass x.caller))
-          (known_by (pass y.caller)) y.end
-          (subst (λ (l : Known). PumpDid ⊥ x.number (job_state (pump_view shelf silent_outbox x.kit) (known_by (pass x.caller)))
-          (job_state (pump_view shelf silent_outbox y.kit) l) y.end)
+      pumped = subst (λ (l : Known). PumpDid ⊥ x.number (job_state (pump_view shelf outbox x.kit) (known_by (pass x.caller)))
+          (job_state (pump_view shelf outbox y.kit) l) y.end)
           (serves.known_is y.caller)
-          (subst (λ (k : Known). PumpDid ⊥ x.number (job_state (pump_view shelf silent_outbox x.kit) k)
-          (job_state (pump_view shelf silent_outbox y.kit) (known y.caller)) y.end)
-          (serves.known_is x.caller) did.deed));
+          (subst (λ (k : Known). PumpDid ⊥ x.number (job_state (pump_view shelf outbox x.kit) k)
+          (job_state (pump_view shelf outbox y.kit) (known y.caller)) y.end)
+          (serves.known_is x.caller) did.deed.did);
       others = (serves.same_caller x.caller y.caller did.same_is).others;
+      outbox = did.deed.outbox;
     };
   }
 
-  pub ticked_at_seat : {C P L : Type 0} (dial : C → Dial) (x y : Seat X (TickKit C Silent P) L) → TickedAtSeat same known dial x y
-      → SeatDid cell pass (ticker_deed dial) x y
-  ticked_at_seat dial x y did = record {
+  pub ticked_at_seat : {C O P L : Type 0} (dial : C → Dial) (outbox : O → Outbox) (x y : Seat X (TickKit C O P) L)
+      → TickedAtSeat same known dial outbox x y → SeatDid cell pass (ticker_deed (tick_view dial outbox)) x y
+  ticked_at_seat dial outbox x y did = record {
     still = still_seated x y did.same_is did.number;
     deed = record {
-      ticked = ticker_unheard (tick_view dial silent_outbox x.kit) (tick_view dial silent_outbox y.kit) (known_by (pass x.caller))
-          (known_by (pass y.caller)) y.end
-          (subst (λ (l : Known). TickerDid ⊥ (job_state (tick_view dial silent_outbox x.kit) (known_by (pass x.caller)))
-          (job_state (tick_view dial silent_outbox y.kit) l) y.end)
+      ticked = subst (λ (l : Known). TickerDid ⊥ (job_state (tick_view dial outbox x.kit) (known_by (pass x.caller)))
+          (job_state (tick_view dial outbox y.kit) l) y.end)
           (serves.known_is y.caller)
-          (subst (λ (k : Known). TickerDid ⊥ (job_state (tick_view dial silent_outbox x.kit) k)
-          (job_state (tick_view dial silent_outbox y.kit) (known y.caller)) y.end)
-          (serves.known_is x.caller) did.deed));
+          (subst (λ (k : Known). TickerDid ⊥ (job_state (tick_view dial outbox x.kit) k)
+          (job_state (tick_view dial outbox y.kit) (known y.caller)) y.end)
+          (serves.known_is x.caller) did.deed.did);
       others = (serves.same_caller x.caller y.caller did.same_is).others;
+      outbox = did.deed.outbox;
     };
   }

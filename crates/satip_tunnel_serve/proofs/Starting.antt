@@ -9,6 +9,7 @@ use Rattle.satip_desk.specs.Views.{WorkerView, PumpView, JobsView}
 use Rattle.satip_serve.proofs.Starting.{fresh_at}
 use Rattle.satip_tunnel_serve.specs.Deeds.{DoorsTell}
 use Rattle.satip_tunnel_serve.specs.Ran.{TunnelJobsRan}
+use Rattle.satip_tunnel_serve.proofs.WholeRuns.{same_outboxes}
 
 pub from_start : (tells : DoorsTell) (c : Setting) (start : ℕ) (given now : JobsView) (pass : ShownPass) (left : JobsView) (end : ServeEnd)
     → c.start ≡ start → now.workers ≡ given.workers → now.pumps ≡ given.pumps → Reads given.ticker.dial now.ticker.dial start
@@ -23,6 +24,9 @@ from_start tells c start given now pass left end is workers pumps reads outbox r
         keys = ran.kits_left.keys ∙ ap (λ (ws : List WorkerView). map (λ (w : WorkerView). w.key) ws) workers;
         recordings = ran.kits_left.recordings ∙ ap (λ (ps : List PumpView). map (λ (p : PumpView). p.recording) ps) pumps;
       };
+      outlets = ran.outlets
+          ∙ same_outboxes _ _ _ _ _ _ (ap (λ (ws : List WorkerView). map (λ (w : WorkerView). w.outbox) ws) workers)
+          (ap (λ (ps : List PumpView). map (λ (p : PumpView). p.outbox) ps) pumps) outbox;
       run = λ accepts fresh. ran.run accepts (fresh_at c.start accepts given now workers pumps at_start outbox fresh);
       ended = λ accepts fresh. ran.ended accepts (fresh_at c.start accepts given now workers pumps at_start outbox fresh);
       at_limit = ran.at_limit;

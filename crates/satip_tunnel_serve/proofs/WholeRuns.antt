@@ -1,11 +1,11 @@
 -- What all jobs of a tunnel did is a run of it.
 use Rattle.std.proofs.Common.{◌≡◌, ◌≢◌, ℕ, true, List, [], ◌∷◌, map, sym, ap, ◌∙◌, subst, length}
-use Rattle.std.proofs.lemmas.List.{length-map}
 use Rattle.satip_base.specs.Lists.{Each}
 use Rattle.satip_base.proofs.Elements.{each_follows}
 use Rattle.satip_plain.specs.declared.setting.Setting.{Setting}
 use Rattle.satip_turn.specs.Shown.{Cell, Knows}
 use Rattle.satip_world.specs.Halls.{IsAtLimit}
+use Rattle.satip_world.specs.Outboxes.{Outbox}
 use Rattle.satip_interleave.specs.Histories.{TunnelItem, TunnelLegal}
 use Rattle.satip_interleave.specs.Calling.{ShownPass}
 use Rattle.satip_tunnel.specs.Seats.{seated, Seat as CallerSeat}
@@ -17,6 +17,7 @@ use Rattle.satip_jobs.specs.Crewed.{RunDid}
 use Rattle.satip_jobs.specs.Passes.{IsFull}
 use Rattle.satip_jobs.specs.Runs.{HasOne, MatchEnd}
 use Rattle.satip_jobs.proofs.Ended.{end_over}
+use Rattle.satip_jobs.proofs.Following.{pumps_keep, workers_keep}
 use Rattle.satip_jobs.proofs.WholeRuns.{run_by}
 use Rattle.satip_desk.specs.Fresh.{FreshWorker, FreshPump, FreshJobs, ReadOnce}
 use Rattle.satip_serve.specs.Ran.{AreAtLimit}
@@ -25,36 +26,30 @@ use Rattle.satip_serve.specs.Servings.{end_of_run}
 use Rattle.satip_serve.specs.Statuses.{serving_status}
 use Rattle.satip_desk.specs.Views.{WorkerView, PumpView, TickView}
 use Rattle.satip_serve.proofs.WholeRuns.{each_map, map_twice}
-use Rattle.satip_tunnel_serve.specs.Deeds.{DoorsTell, SeatDid, TunnelWorkerDid, TunnelPumpDid, TunnelTickerDid}
+use Rattle.satip_tunnel_serve.specs.Deeds.{DoorsTell, SeatDid, worker_deed, pump_deed, ticker_deed}
+use Rattle.satip_tunnel_serve.specs.Outlets.{Outboxes, OutletsStay}
 use Rattle.satip_tunnel_serve.specs.TunnelRuns.{IsTunnelStop, TunnelEndTells, TunnelEndsFull, TunnelServeRun, tunnel_terms}
 use Rattle.satip_tunnel_serve.proofs.Ended.{one_worker_tells, one_worker_limit, one_pump_tells, one_ticker_tells}
 use Rattle.satip_tunnel_serve.proofs.Finishing.{worker_done, tunnel_pump_done, tunnel_ticker_done}
 
--- kits of which a part is seen to be the same are as many
-pub as_many : {K V U : Type 0} (see : K → V) (part : V → U) (xs ys : List K) → map part (map see xs) ≡ map part (map see ys) → length xs ≡ length ys
-as_many {U = U} see part xs ys same =
-    sym (length-map xs see) ∙ sym (length-map (map see xs) part) ∙ ap (λ (us : List U). length us) same ∙ length-map (map see ys) part ∙ length-map ys see
+-- the outlets of kits, in three parts
+abbrev shown : List Outbox → List Outbox → Outbox → Outboxes
+shown ws ps t = record { workers = ws; pumps = ps; ticker = t }
+
+pub same_outboxes : (ws vs ps qs : List Outbox) (t u : Outbox) → ws ≡ vs → ps ≡ qs → t ≡ u → shown ws ps t ≡ shown vs qs u
+same_outboxes ws vs ps qs t u are_workers are_pumps is_ticker =
+    ap (λ (x : List Outbox). shown x ps t) are_workers ∙ ap (λ (y : List Outbox). shown vs y t) are_pumps ∙ ap (λ (z : Outbox). shown vs qs z) is_ticker
 
 any_of : {S : Type 0} (xs : List S) → Each (λ x. Unit {0}) xs
 any_of [] = tt
 any_of (x ∷ xs) = (tt, any_of xs)
 
--- what each kind of job did, as a relation of kits
-abbrev pub works : {W : Type 0} → (tells : DoorsTell) → (W → WorkerView) → ℕ → W → CallerSeat → W → CallerSeat → ServeEnd → Type 0
-works tells worker_of n o s m t e = TunnelWorkerDid tells n (worker_of o) s (worker_of m) t e
-
-abbrev pub pumps_so : {P : Type 0} → (P → PumpView) → ℕ → P → CallerSeat → P → CallerSeat → ServeEnd → Type 0
-pumps_so pump_of n o s m t e = TunnelPumpDid n (pump_of o) s (pump_of m) t e
-
-abbrev pub ticks : {T : Type 0} → (T → TickView) → ℕ → T → CallerSeat → T → CallerSeat → ServeEnd → Type 0
-ticks tick_of n o s m t e = TunnelTickerDid (tick_of o) s (tick_of m) t e
-
 module _ {X G W L P M T N : Type 0} (cell : X → Cell Setting) (pass : X → ShownPass) (gear : X → G)
     (legal : Setting → List TunnelItem → Type 0) (is_stop : TunnelItem → Type 0) (goes_on : X → X → Type 0)
     (tells : DoorsTell) (worker_of : W → WorkerView) (pump_of : P → PumpView) (tick_of : T → TickView) (o : X) (before : Posts W P T G) (n : X)
     (after : Posts W P T G) (end : ServeEnd)
-    (run : RunDid cell pass gear legal is_stop goes_on {L = L} {M = M} {N = N} (SeatDid cell pass (works tells worker_of))
-    (SeatDid cell pass (pumps_so pump_of)) (SeatDid cell pass (ticks tick_of)) o before n after end) where
+    (run : RunDid cell pass gear legal is_stop goes_on {L = L} {M = M} {N = N} (SeatDid cell pass (worker_deed tells worker_of))
+    (SeatDid cell pass (pump_deed pump_of)) (SeatDid cell pass (ticker_deed tick_of)) o before n after end) where
   -- the caller at a seat
   abbrev at : {K S : Type 0} → Seat X K S → CallerSeat
   at s = seated (cell s.caller) (pass s.caller)
@@ -81,6 +76,22 @@ module _ {X G W L P M T N : Type 0} (cell : X → Cell Setting) (pass : X → Sh
   pumps_seen : map (λ s. pump_of s.kit) run.second_ended ≡ map pump_of after.pumps.items
   pumps_seen = sym (map_twice (λ (s : Seat X P M). s.kit) pump_of run.second_ended) ∙ ap (λ (ps : List P). map pump_of ps) (sym run.pumps_are)
 
+  -- the outlets show the same
+  pub outlets_stay : OutletsStay (record { workers = map worker_of before.workers.items; pumps = map pump_of before.pumps.items; ticker = tick_of before.ticker })
+      (record { workers = map worker_of after.workers.items; pumps = map pump_of after.pumps.items; ticker = tick_of after.ticker })
+  outlets_stay =
+      let worker_outbox : WorkerView → Outbox = λ w. w.outbox in
+      let pump_outbox : PumpView → Outbox = λ p. p.outbox in
+      let kit : run.third.kit ≡ before.ticker = cc run.third_begun.kits_are in
+      same_outboxes _ _ _ _ _ _
+      (map_twice worker_of worker_outbox after.workers.items
+      ∙ workers_keep cell pass gear legal is_stop goes_on _ _ _ o before n after end run (λ (w : W). (worker_of w).outbox) (λ x y did. did.deed.outbox)
+      ∙ sym (map_twice worker_of worker_outbox before.workers.items))
+      (map_twice pump_of pump_outbox after.pumps.items
+      ∙ pumps_keep cell pass gear legal is_stop goes_on _ _ _ o before n after end run (λ (p : P). (pump_of p).outbox) (λ x y did. did.deed.outbox)
+      ∙ sym (map_twice pump_of pump_outbox before.pumps.items))
+      (ap (λ (t : T). (tick_of t).outbox) run.ticker_is ∙ run.third_done.deed.outbox ∙ ap (λ (t : T). (tick_of t).outbox) kit)
+
   pub tunnel_run : ((t : TunnelItem) → is_stop t → IsTunnelStop t) → ((c : Setting) (h : List TunnelItem) → legal c h → TunnelLegal c h) → (accepts : ℕ)
       → IsFirst (pass o) → Knows (legal (cell o).setting) (pass n)
       → FreshJobs (cell o).setting.start accepts
@@ -93,9 +104,9 @@ module _ {X G W L P M T N : Type 0} (cell : X → Cell Setting) (pass : X → Sh
       let full : Type 0 = IsFull (pass n).seen in
       let cut : Type 0 = TunnelEndsFull (serving_status (end_of_run end)) (pass n).seen in
       let cuts : end ≡ HistoryFull → full → cut = λ is whole. (ap (λ (e : ServeEnd). serving_status (end_of_run e)) is, whole) in
-      let worked = works tells worker_of in
-      let pumped = pumps_so pump_of in
-      let ticked = ticks tick_of in
+      let worked = worker_deed tells worker_of in
+      let pumped = pump_deed pump_of in
+      let ticked = ticker_deed tick_of in
       let R : List WorkerView → List PumpView → TickView → Type 0 = λ ws ps t.
       TunnelServeRun tells.conn cut c accepts (pass n) (record { workers = ws; pumps = ps; ticker = t }) in
       let whole : R (map (λ (s : Seat X W L). worker_of s.kit) run.front.ended) (map (λ (s : Seat X P M). pump_of s.kit) run.second_ended)
@@ -122,7 +133,7 @@ module _ {X G W L P M T N : Type 0} (cell : X → Cell Setting) (pass : X → Sh
 
   -- a fact of each worker, or of one, by the end of all
   by_end : (good bad : WorkerView → Type 0) (fresh : Seat X W L → Type 0)
-      → ((x y : Seat X W L) → SeatDid cell pass (works tells worker_of) x y → fresh x
+      → ((x y : Seat X W L) → SeatDid cell pass (worker_deed tells worker_of) x y → fresh x
       → (length (pass y.caller).seen ≡ 18446744073709551615 → IsFull (pass n).seen)
       → MatchEnd y.end (good (worker_of y.kit)) (bad (worker_of y.kit)) (IsFull (pass n).seen))
       → Knows (legal (cell o).setting) (pass n) → Each fresh run.first
@@ -131,8 +142,8 @@ module _ {X G W L P M T N : Type 0} (cell : X → Cell Setting) (pass : X → Sh
       let full : Type 0 = IsFull (pass n).seen in
       let whole : MatchEnd end (Each good (map (λ (s : Seat X W L). worker_of s.kit) run.front.ended))
       (HasOne bad (map (λ (s : Seat X W L). worker_of s.kit) run.front.ended)) full =
-      end_over cell pass gear legal is_stop goes_on (SeatDid cell pass (works tells worker_of)) (SeatDid cell pass (pumps_so pump_of))
-      (SeatDid cell pass (ticks tick_of)) o before n after end run
+      end_over cell pass gear legal is_stop goes_on (SeatDid cell pass (worker_deed tells worker_of)) (SeatDid cell pass (pump_deed pump_of))
+      (SeatDid cell pass (ticker_deed tick_of)) o before n after end run
       (λ (s : Seat X W L). worker_of s.kit) good bad fresh says
       (λ (x y : Seat X P M) did filled. one_pump_tells full x.number (pump_of x.kit) (pump_of y.kit) (at x) (at y) y.end did.deed filled)
       (λ (x y : Seat X T N) did filled. one_ticker_tells full (tick_of x.kit) (tick_of y.kit) (at x) (at y) y.end did.deed filled)

@@ -19,7 +19,7 @@ use Rattle.satip_tunnel.specs.Ends.{IsLeave, Leaves}
 use Rattle.satip_tunnel.specs.TunnelRun.{EnteredRun, LaneRun, TunnelRun}
 use Rattle.satip_tunnel.specs.Walk.{Follows, Stance, Walk}
 use Rattle.satip_tunnel.specs.Wire.{sent_by, wire}
-use Rattle.satip_tunnel_serve.specs.Wires.{Framed, Piece, Reply, RunsDrainOwn, WiresHaveLanes, bytes_of, frames_of, pieces, pieces_by}
+use Rattle.satip_tunnel_serve.specs.Wires.{Framed, Piece, Reply, RunsDrainOwn, WiresHaveLanes, frames_of, pieces, pieces_by}
 
 -- the lane of a run
 
@@ -85,6 +85,12 @@ runs_drain_own own draws received sent end (t ∷ ts) run =
 
 -- pieces
 
+-- all bytes of pieces
+abbrev pub bytes_of : List Piece → List ℕ
+bytes_of [] = []
+bytes_of (Reply bytes ∷ ps) = bytes ++ bytes_of ps
+bytes_of (Framed bytes ∷ ps) = bytes ++ bytes_of ps
+
 bytes_of-append : (a b : List Piece) → bytes_of (a ++ b) ≡ bytes_of a ++ bytes_of b
 bytes_of-append [] b = refl
 bytes_of-append (Reply bytes ∷ ps) b = ap (λ rest. bytes ++ rest) (bytes_of-append ps b) ∙ sym (append_assoc bytes (bytes_of ps) (bytes_of b))
@@ -108,7 +114,7 @@ one_wire (Drain number) Gone out = refl
 one_wire (Drain number) Left out = refl
 one_wire (Leave number) answer out = refl
 
-wire_is : (es : List TunnelItem) → bytes_of (pieces es) ≡ wire es
+pub wire_is : (es : List TunnelItem) → bytes_of (pieces es) ≡ wire es
 wire_is [] = refl
 wire_is (t ∷ ts) =
     bytes_of-append (pieces_by t.event t.answer t.out) (pieces ts)
@@ -170,7 +176,6 @@ wires_have_lanes takes c h before entries numbers caller x draws received sent e
     let is = takes c h before entries numbers caller x legal callers part has in
     let whole_own : AreOf x entries = subst (AreOf x) (sym given.whole) (subst (IsOfGiven (x ∷ [])) (sym own.event) tt, own.rest) in
     record {
-      split = wire_is entries;
       taken = is.taken;
       joined = is.joined ∙ drained_is x entries whole_own;
       first = is.first;

@@ -20,15 +20,14 @@ use Rattle.satip_tunnel_serve.specs.TunnelRuns.{TunnelEndsFull, TunnelServeRun}
 use Rattle.satip_tunnel_serve.specs.Outlets.{OutletsStay}
 use Rattle.satip_tunnel_serve.specs.Sent.{SendsPayloads, TunnelWorkerSent}
 
--- what the jobs of a tunnel left, as contracts see it: the tunnel, the pass into which all others were joined, and the kits, with their outlets and without
+-- what the jobs of a tunnel left, as contracts see it: the tunnel, the pass into which all others were joined, and the kits
 pub record TunnelLastView : Type 0 where
   pub server : Cell Setting
   pub pass : ShownPass
   pub jobs : JobsView
-  pub silent : JobsView
 
-abbrev pub tunnel_last_view : {J : Type 0} → (view silent_view : J → JobsView) → TunnelLast J → TunnelLastView
-tunnel_last_view view silent_view l = record { server = l.server; pass = l.pass; jobs = view l.jobs; silent = silent_view l.jobs }
+abbrev pub tunnel_last_view : {J : Type 0} → (view : J → JobsView) → TunnelLast J → TunnelLastView
+tunnel_last_view view l = record { server = l.server; pass = l.pass; jobs = view l.jobs }
 
 -- jobs ran with the given kits, left `l` and ended with this status. Each worker's doors end after `accepts` connections
 pub record TunnelServingRun (conn_tells : Type 0) (accepts : ℕ) (given : JobsView) (l : TunnelLastView) (status : ℕ) : Type 0 where
@@ -38,19 +37,19 @@ pub record TunnelServingRun (conn_tells : Type 0) (accepts : ℕ) (given : JobsV
   pub knows : Knows (TunnelLegal l.server.setting) l.pass
   pub joined : l.pass.made ≡ numbers_of l.pass.kept
   -- the jobs ran over one history of the tunnel, whose entries of the server keep the laws. With any other status than 9 no job ended because it is full
-  pub run : TunnelServeRun conn_tells (TunnelEndsFull status l.pass.seen) l.server.setting accepts l.pass l.silent
+  pub run : TunnelServeRun conn_tells (TunnelEndsFull status l.pass.seen) l.server.setting accepts l.pass l.jobs
   pub payload : SendsSelected l.server.setting (inners l.pass.seen)
   pub owners : ObeysOwners l.server.setting (inners l.pass.seen)
   pub busy : TellsBusy l.server.setting (inners l.pass.seen)
-  pub recordings : PlaysRecordings l.server.setting (inners l.pass.seen) l.silent.pumps
+  pub recordings : PlaysRecordings l.server.setting (inners l.pass.seen) l.jobs.pumps
   -- each connection that was given a lane was sent rewritten replies and the first frames of the lane. If one session alone has its channels on a lane, the
   -- frames there carry its payload
-  pub frames : Along (TunnelWorkerSent conn_tells (TunnelEndsFull status l.pass.seen) l.pass.seen accepts) 1 l.silent.workers run.of_workers
+  pub frames : Along (TunnelWorkerSent conn_tells (TunnelEndsFull status l.pass.seen) l.pass.seen accepts) 1 l.jobs.workers run.of_workers
   pub channels : SendsPayloads l.server.setting l.pass.seen
   -- the workers' keys, the pumps' recordings and what the outlets show are those of the given kits, in order
   pub kits_left : ComeBack given l.jobs
   pub outlets : OutletsStay given l.jobs
-  pub ends : JobsEnd l.silent.workers (IsFull l.pass.seen) status
+  pub ends : JobsEnd l.jobs.workers (IsFull l.pass.seen) status
 
 -- the outcome of serving whose jobs run over one history of the tunnel, by the configuration of its setting
 abbrev pub Tunnels : (t : Tells) → (ConfigFault → Type 0) → ℕ → List ℕ → (d f : DeskView) → ServingLeft TunnelLastView → Type 0
@@ -72,11 +71,11 @@ tunnel_tells config conn = record {
 }
 
 -- what serving through a tunnel left, by the contract's views of a source and of kits
-abbrev pub tunnel_left : {S J : Type 0} → (S → Feed) → (view silent_view : J → JobsView) → Option S → Option (TunnelLast J) → Option J → ℕ
+abbrev pub tunnel_left : {S J : Type 0} → (S → Feed) → (view : J → JobsView) → Option S → Option (TunnelLast J) → Option J → ℕ
     → ServingLeft TunnelLastView
-tunnel_left feed view silent_view source last unused status = record {
+tunnel_left feed view source last unused status = record {
   source = option_map feed source;
-  last = option_map (tunnel_last_view view silent_view) last;
+  last = option_map (tunnel_last_view view) last;
   unused = option_map view unused;
   status = status;
 }

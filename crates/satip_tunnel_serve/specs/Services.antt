@@ -8,6 +8,7 @@ use Rattle.satip_desk.specs.declared.kits.TickKit.{TickKit}
 use Rattle.satip_plain.specs.Known.{Known}
 use Rattle.satip_turn.specs.Shown.{Cell}
 use Rattle.satip_world.specs.Dials.{Dial}
+use Rattle.satip_world.specs.Outboxes.{Outbox}
 use Rattle.satip_world.specs.Recordings.{StoreView}
 use Rattle.satip_interleave.specs.Histories.{TunnelItem, TunnelLegal}
 use Rattle.satip_interleave.specs.Calling.{ShownPass, SameCaller, known_by}
@@ -15,11 +16,8 @@ use Rattle.satip_tunnel.specs.Seats.{Seat as CallerSeat}
 use Rattle.satip_jobs.specs.declared.end.ServeEnd.{ServeEnd}
 use Rattle.satip_jobs.specs.declared.seat.Seat.{Seat}
 use Rattle.satip_desk.specs.Views.{pump_view, tick_view}
-use Rattle.satip_serve.specs.Deeds.{PumpDid, TickerDid}
 use Rattle.satip_serve.specs.Services.{NeverWants, SeatDid as ServesAtSeat}
-use Rattle.satip_tunnel.specs.declared.silent.Silent.{Silent}
-use Rattle.satip_tunnel.specs.Kits.{silent_outbox}
-use Rattle.satip_tunnel_serve.specs.Deeds.{SeatDid}
+use Rattle.satip_tunnel_serve.specs.Deeds.{SeatDid, SilentPumpDid, SilentTickerDid}
 use Rattle.satip_tunnel_serve.specs.TunnelRuns.{IsTunnelStop}
 
 -- each caller of this type is a service that knows what its pass has seen and made of the server's entries, and never returns out of memory. As the same
@@ -32,12 +30,14 @@ pub record ServesInTunnel {X : Type 0} (known : X → Known) (may_want : X → B
   pub lawful : (c : Setting) (h : List TunnelItem) → legal c h → TunnelLegal c h
   pub stops : (t : TunnelItem) → is_stop t → IsTunnelStop t
 
--- a pump or the ticker ran at its seat, over the same service, with an outlet that sends nothing
-abbrev pub PumpedAtSeat : {X M P L : Type 0} → (same : X → X → Type 0) → (X → Known) → (M → StoreView) → Seat X (PumpKit M Silent P) L → Seat X (PumpKit M Silent P) L → Type 0
-PumpedAtSeat same known shelf before after = ServesAtSeat same known (pump_view shelf silent_outbox) (PumpDid ⊥) before after
+-- a pump or the ticker ran at its seat, over the same service and an outlet that sends nothing; the outlet of its kit stays as it is
+abbrev pub PumpedAtSeat : {X M O P L : Type 0} → (same : X → X → Type 0) → (X → Known) → (M → StoreView) → (O → Outbox)
+    → Seat X (PumpKit M O P) L → Seat X (PumpKit M O P) L → Type 0
+PumpedAtSeat same known shelf outbox before after = ServesAtSeat same known (pump_view shelf outbox) SilentPumpDid before after
 
-abbrev pub TickedAtSeat : {X C P L : Type 0} → (same : X → X → Type 0) → (X → Known) → (C → Dial) → Seat X (TickKit C Silent P) L → Seat X (TickKit C Silent P) L → Type 0
-TickedAtSeat same known dial before after = ServesAtSeat same known (tick_view dial silent_outbox) (λ _. TickerDid ⊥) before after
+abbrev pub TickedAtSeat : {X C O P L : Type 0} → (same : X → X → Type 0) → (X → Known) → (C → Dial) → (O → Outbox)
+    → Seat X (TickKit C O P) L → Seat X (TickKit C O P) L → Type 0
+TickedAtSeat same known dial outbox before after = ServesAtSeat same known (tick_view dial outbox) (λ _. SilentTickerDid) before after
 
 -- this work may be done on any job, and has this effect at its seat
 pub record WorksSo {X K M F : Type 0} (cell : X → Cell Setting) (pass : X → ShownPass) (did : ℕ → K → CallerSeat → K → CallerSeat → ServeEnd → Type 0)

@@ -15,7 +15,6 @@ use Rattle.satip_tunnel_laws.specs.LaneFrames.{EndsEmpty, lane}
 use Rattle.satip_tunnel_laws.specs.Owners.{AreAllBefore, CallersDrainOwn, DrainsOwn, IsConnectionOf}
 use Rattle.satip_tunnel.specs.declared.ends.TunnelEnd.{TunnelEnd}
 use Rattle.satip_tunnel.specs.TunnelRun.{TunnelRun}
-use Rattle.satip_tunnel.specs.Wire.{wire}
 
 -- a piece of these bytes: a rewritten reply, or frames
 pub data Piece : Type 0 where
@@ -33,12 +32,7 @@ abbrev pub pieces : List TunnelItem → List Piece
 pieces [] = []
 pieces (t ∷ ts) = pieces_by t.event t.answer t.out ++ pieces ts
 
--- all bytes of pieces, and those of frames alone
-abbrev pub bytes_of : List Piece → List ℕ
-bytes_of [] = []
-bytes_of (Reply bytes ∷ ps) = bytes ++ bytes_of ps
-bytes_of (Framed bytes ∷ ps) = bytes ++ bytes_of ps
-
+-- the bytes of the frames among pieces
 abbrev pub frames_of : List Piece → List ℕ
 frames_of [] = []
 frames_of (Reply bytes ∷ ps) = frames_of ps
@@ -51,10 +45,9 @@ pub record IsGivenAtFirst (x : ℕ) (entries : List TunnelItem) : Type 0 where
   pub whole : entries ≡ first ∷ rest
   pub given : first.answer ≡ Lane x
 
--- the wire of a connection is its pieces, and the frames among them are a prefix of its lane's, each of them whole. If the last drain was answered that no
--- frame waits, they are all frames that the lane had before that drain
+-- the frames among the pieces of a connection are a prefix of its lane's, each of them whole. If the last drain was answered that no frame waits, they are all
+-- frames that the lane had before that drain
 pub record WireHasLane (h before entries : List TunnelItem) (caller x : ℕ) : Type 0 where
-  pub split : bytes_of (pieces entries) ≡ wire entries
   pub taken : List (List ℕ)
   pub joined : concat taken ≡ frames_of (pieces entries)
   pub first : Begins taken (lane h x)

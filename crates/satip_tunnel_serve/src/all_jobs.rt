@@ -4,15 +4,14 @@ ghost use Rattle.std.specs.Prelude.{◌≡◌, ◌≤◌, length, vec_capacity, 
 ghost use Rattle.std.specs.Thread.{IsSync};
 ghost use Rattle.satip_fronts.specs.FrontEnds.{IsNumbered};
 ghost use Rattle.satip_desk.specs.Fresh.{AreFresh, FreshJobs, Unused};
+ghost use Rattle.satip_desk.specs.Views.{jobs_view, worker_view};
 ghost use Rattle.satip_serve.specs.Ran.{CanRun};
 ghost use Rattle.satip_serve.specs.Spaces.{IsSpaceFor};
 ghost use Rattle.satip_interleave.specs.Histories.{TunnelLegal};
 ghost use Rattle.satip_tunnel.specs.Seats.{seated};
 ghost use Rattle.satip_tunnel_serve.specs.Deeds.{WorkedAtSeat, doors_tell};
-ghost use Rattle.satip_tunnel_serve.specs.Ran.{HaveOutlets, HaveTunneled};
-ghost use Rattle.satip_tunnel_serve.specs.Views.{worker_seen, jobs_seen};
+ghost use Rattle.satip_tunnel_serve.specs.Ran.{HaveTunneled};
 
-use crate::aside::{put_aside, take_back};
 use crate::run::{TunnelSpace, run_in_tunnel};
 use crate::seat::work_at_seat;
 use crate::space::{Memory, take_memory};
@@ -21,8 +20,8 @@ use satip_config::Config;
 use satip_desk::{Devices, JobKits, Jobs, WorkerKit};
 use satip_interleave::{SharedTunnel, TunnelCaller, TunnelPass, make};
 use satip_jobs::{Posts, Seat, ServeEnd};
-use satip_tunnel::{Silent, WorkerRoom};
-use satip_world::{Clock, Doors, MuxStore, Pacer};
+use satip_tunnel::WorkerRoom;
+use satip_world::{Clock, Doors, MuxStore, Outlet, Pacer};
 use std::alloc::Global;
 use std::sync::Wait;
 use std::thread::Threads;
@@ -36,18 +35,12 @@ pub struct TunnelLast<J> {
     pub jobs: J,
 }
 
-// The gears of the jobs' callers, which are nothing.
-#[derive(Drop)]
-struct Gears {
-    pub workers: Vec<()>,
-    pub pumps: Vec<()>,
-}
-
-// Runs the jobs, whose outlets send nothing.
-fn run_silent<
+// Runs the jobs.
+fn run_all<
     'a,
     R: Threads + Wait + Sync,
     D: Doors + Send + Drop,
+    O: Outlet + Send + Drop,
     P: Pacer + Send + Drop,
     M: MuxStore + Send + Drop,
     C: Clock + Send + Drop,
@@ -55,28 +48,32 @@ fn run_silent<
     rt: &'a R,
     server: &'a SharedTunnel,
     pass: TunnelPass,
-    jobs: JobKits<D, Silent, P, M, C>,
-    gears: Gears,
-    space: TunnelSpace<TunnelCaller<'a, R>, D, WorkerRoom, P, M>,
-) -> (TunnelPass, JobKits<D, Silent, P, M, C>, ServeEnd)
+    jobs: JobKits<D, O, P, M, C>,
+    memory: Memory<TunnelSpace<TunnelCaller<'a, R>, D, O, WorkerRoom, P, M>>,
+) -> (TunnelPass, JobKits<D, O, P, M, C>, ServeEnd)
     requires ready { CanRun TunnelLegal server.now pass jobs }
-    requires worker_space { IsSpaceFor (length jobs.workers.items) gears.workers.items
-        space.worker_rooms.items space.workers.items (vec_capacity space.workers) }
-    requires pump_space { IsSpaceFor (length jobs.pumps.items) gears.pumps.items
-        space.pump_rooms.items space.pumps.items (vec_capacity space.pumps) }
+    requires worker_space { IsSpaceFor (length jobs.workers.items) memory.worker_gears.items
+        memory.space.worker_rooms.items memory.space.workers.items
+        (vec_capacity memory.space.workers) }
+    requires pump_space { IsSpaceFor (length jobs.pumps.items) memory.pump_gears.items
+        memory.space.pump_rooms.items memory.space.pumps.items
+        (vec_capacity memory.space.pumps) }
     requires few { length jobs.pumps.items ≤ 16 }
     ensures ran { HaveTunneled (doors_tell D.Conn.tells D.by_limit)
         (FreshJobs server.now.setting.start) server.now
-        (jobs_seen D.hall M.shelf C.dial jobs) result.0
-        (jobs_seen D.hall M.shelf C.dial result.1) result.2 }
-    ensures worker_count { length result.1.workers.items ≡ length jobs.workers.items }
-    ensures pump_count { length result.1.pumps.items ≡ length jobs.pumps.items }
+        (jobs_view D.hall O.outbox M.shelf C.dial jobs) result.0
+        (jobs_view D.hall O.outbox M.shelf C.dial result.1) result.2 }
 {
+    let Memory {
+        space,
+        worker_gears,
+        pump_gears,
+    } = memory;
     let posts = Posts {
         workers: jobs.workers,
-        worker_gears: gears.workers,
+        worker_gears,
         pumps: jobs.pumps,
-        pump_gears: gears.pumps,
+        pump_gears,
         ticker: jobs.tick,
         ticker_gear: (),
     };
@@ -86,13 +83,13 @@ fn run_silent<
         root,
         posts,
         space,
-        &|seat: &mut Seat<TunnelCaller<R>, WorkerKit<D, Silent, P>, WorkerRoom>|
+        &|seat: &mut Seat<TunnelCaller<R>, WorkerKit<D, O, P>, WorkerRoom>|
             requires { IsSync R.row }
             ensures { WorkedAtSeat (doors_tell D.Conn.tells D.by_limit)
                 seat.old.number seat.new.number
-                (worker_seen D.hall seat.old.kit)
+                (worker_view D.hall O.outbox seat.old.kit)
                 (seated seat.old.caller.server.now seat.old.caller.pass)
-                (worker_seen D.hall seat.new.kit)
+                (worker_view D.hall O.outbox seat.new.kit)
                 (seated seat.new.caller.server.now seat.new.caller.pass) seat.new.end }
         { work_at_seat(seat) },
     );
@@ -122,27 +119,12 @@ fn serve_all<R: Threads + Wait + Sync, K: Devices>(
     ensures ran { IfOk result (λ served. HaveTunneled
         (doors_tell K.Doors.Conn.tells K.Doors.by_limit)
         (FreshJobs server.now.setting.start) server.now
-        (jobs_seen K.Doors.hall K.Store.shelf K.Clock.dial jobs) served.0
-        (jobs_seen K.Doors.hall K.Store.shelf K.Clock.dial served.1) served.2) }
-    ensures outlets { IfOk result (λ served. HaveOutlets jobs served.1) }
+        (jobs_view K.Doors.hall K.Outlet.outbox K.Store.shelf K.Clock.dial jobs) served.0
+        (jobs_view K.Doors.hall K.Outlet.outbox K.Store.shelf K.Clock.dial served.1) served.2) }
     ensures unused { IfErr result (λ back. back ≡ jobs) }
 {
     match take_memory::<TunnelCaller<R>, K>(alloc, jobs.workers.len(), jobs.pumps.len()) {
-        Ok(memory) => {
-            let Memory {
-                space,
-                worker_gears,
-                pump_gears,
-                spare,
-            } = memory;
-            let (silent, aside) = put_aside(jobs, spare);
-            let gears = Gears {
-                workers: worker_gears,
-                pumps: pump_gears,
-            };
-            let (pass, silent, end) = run_silent(rt, server, pass, silent, gears, space);
-            Ok((pass, take_back(silent, aside), end))
-        }
+        Ok(memory) => Ok(run_all(rt, server, pass, jobs, memory)),
         Err(Want) => Err(jobs),
     }
 }
@@ -151,7 +133,7 @@ fn serve_all<R: Threads + Wait + Sync, K: Devices>(
 /// order of front ends, and the ticker, whose clock is read first, for the start. Splits off a
 /// caller from caller 0 for each job. After the last worker it joins the workers' callers, and
 /// caller 0 submits the one stop while pumps and ticker still run. Then it joins theirs. Callers
-/// are joined in the order of jobs. No outlet is used: each comes back as it was. Blocks.
+/// are joined in the order of jobs. No outlet is used. Blocks.
 ///
 /// All memory is taken before any job begins. If it was refused, returns the kits; then only the
 /// clock was used, once.
@@ -168,14 +150,14 @@ pub fn serve_through_tunnel<R: Threads + Wait + Sync, K: Devices>(
     requires pumps { length jobs.pumps.items ≡ length config.fronts }
 
     ensures config { IfOk result (λ served. served.0.server.setting.config ≡ config) }
-    // the workers' keys, the pumps' recordings and all outlets come back in order; it was a run of
-    // the tunnel if the kits were fresh, apart from their outlets; if all were served and doors end
-    // by their limit alone, the doors of each worker are at it
+    // the workers' keys, the pumps' recordings and what the outlets show come back in order; it was
+    // a run of the tunnel if the kits were fresh; if all were served and doors end by their limit
+    // alone, the doors of each worker are at it
     ensures ran { IfOk result (λ served. HaveTunneled
         (doors_tell K.Doors.Conn.tells K.Doors.by_limit) AreFresh served.0.server
-        (jobs_seen K.Doors.hall K.Store.shelf K.Clock.dial jobs) served.0.pass
-        (jobs_seen K.Doors.hall K.Store.shelf K.Clock.dial served.0.jobs) served.1) }
-    ensures outlets { IfOk result (λ served. HaveOutlets jobs served.0.jobs) }
+        (jobs_view K.Doors.hall K.Outlet.outbox K.Store.shelf K.Clock.dial jobs) served.0.pass
+        (jobs_view K.Doors.hall K.Outlet.outbox K.Store.shelf K.Clock.dial served.0.jobs)
+        served.1) }
     ensures unused { IfErr result (Unused K.Clock.dial jobs) }
 {
     let start = jobs.tick.clock.now();

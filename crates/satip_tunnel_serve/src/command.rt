@@ -5,7 +5,6 @@ ghost use Rattle.satip_fronts.specs.FrontEnds.{IsNumbered};
 ghost use Rattle.satip_config.specs.Configurations.{IsServed};
 ghost use Rattle.satip_desk.specs.Fresh.{AreFresh};
 ghost use Rattle.satip_desk.specs.Views.{DeskView, jobs_view};
-ghost use Rattle.satip_tunnel.specs.Silences.{no_outbox};
 ghost use Rattle.satip_world.specs.Recordings.{IsStarted};
 ghost use Rattle.satip_desk.specs.Given.{ComeUnused};
 ghost use Rattle.satip_serve.specs.CommandRan.{EndsAtLimit};
@@ -42,11 +41,10 @@ fn run_kits<R: Threads + Wait + Sync, K: Devices>(
     ensures config { IfSome result.last (λ last. last.server.setting.config ≡ config) }
     ensures ran { IfSome result.last (λ last. TunnelServingRun K.Doors.Conn.tells _accepts
         (jobs_view K.Doors.hall K.Outlet.outbox K.Store.shelf K.Clock.dial jobs)
-        (tunnel_last_view (jobs_view K.Doors.hall K.Outlet.outbox K.Store.shelf K.Clock.dial)
-        (jobs_view K.Doors.hall no_outbox K.Store.shelf K.Clock.dial) last)
+        (tunnel_last_view (jobs_view K.Doors.hall K.Outlet.outbox K.Store.shelf K.Clock.dial) last)
         (serving_status result.end)) }
     ensures at_limit { IfSome result.last (λ last. EndsAtLimit K.Doors.by_limit
-        (jobs_view K.Doors.hall no_outbox K.Store.shelf K.Clock.dial last.jobs).workers
+        (jobs_view K.Doors.hall K.Outlet.outbox K.Store.shelf K.Clock.dial last.jobs).workers
         (serving_status result.end)) }
     ensures begun { MatchOption result.last (result.end ≡ ServingEnd.OutOfMemory)
         (λ _. IsEndOfRun result.end) }
@@ -93,11 +91,10 @@ fn run_source<R: Threads + Wait + Sync, K: Desk>(
         → Tunnels (tunnel_tells K.Config.tells K.Doors.Conn.tells)
         (λ fault. result.end ≡ ServingEnd.Configuration fault) accepts name d (K.desk desk.new)
         (tunnel_left K.Config.feed
-        (jobs_view K.Doors.hall K.Outlet.outbox K.Store.shelf K.Clock.dial)
-        (jobs_view K.Doors.hall no_outbox K.Store.shelf K.Clock.dial) (Some source.new)
+        (jobs_view K.Doors.hall K.Outlet.outbox K.Store.shelf K.Clock.dial) (Some source.new)
         result.last result.unused (serving_status result.end)) }
     ensures at_limit { IfSome result.last (λ last. EndsAtLimit K.Doors.by_limit
-        (jobs_view K.Doors.hall no_outbox K.Store.shelf K.Clock.dial last.jobs).workers
+        (jobs_view K.Doors.hall K.Outlet.outbox K.Store.shelf K.Clock.dial last.jobs).workers
         (serving_status result.end)) }
 {
     let config = match read_configuration(alloc, source) {
@@ -140,11 +137,10 @@ pub fn tunnel_by<R: Threads + Wait + Sync, K: Desk>(
     ensures ends { Tunnels (tunnel_tells K.Config.tells K.Doors.Conn.tells)
         (λ fault. result.end ≡ ServingEnd.Configuration fault) accepts name.now
         (K.desk desk.old) (K.desk desk.new) (tunnel_left K.Config.feed
-        (jobs_view K.Doors.hall K.Outlet.outbox K.Store.shelf K.Clock.dial)
-        (jobs_view K.Doors.hall no_outbox K.Store.shelf K.Clock.dial) result.config
+        (jobs_view K.Doors.hall K.Outlet.outbox K.Store.shelf K.Clock.dial) result.config
         result.last result.unused (serving_status result.end)) }
     ensures at_limit { IfSome result.last (λ last. EndsAtLimit K.Doors.by_limit
-        (jobs_view K.Doors.hall no_outbox K.Store.shelf K.Clock.dial last.jobs).workers
+        (jobs_view K.Doors.hall K.Outlet.outbox K.Store.shelf K.Clock.dial last.jobs).workers
         (serving_status result.end)) }
 {
     match desk.config(name) {

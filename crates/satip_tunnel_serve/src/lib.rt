@@ -7,7 +7,6 @@
 
 mod all_jobs;
 mod answer_laws;
-mod aside;
 mod command;
 mod command_laws;
 mod end;

@@ -2,9 +2,7 @@
 
 ghost use Rattle.std.specs.Prelude.{◌≡◌, ◌≤◌, [], length, vec_capacity, IfOk};
 ghost use Rattle.satip_serve.specs.Spaces.{IsSpaceFor};
-ghost use Rattle.satip_tunnel_serve.specs.Asides.{IsSpareFor};
 
-use crate::aside::Spare;
 use crate::run::TunnelSpace;
 use satip_base::{Out, Want, with_room};
 use satip_desk::Devices;
@@ -15,26 +13,18 @@ use std::alloc::Global;
 
 /// All memory that the jobs take, apart from their kits.
 #[derive(Drop)]
-pub(crate) struct Memory<S, A> {
+pub(crate) struct Memory<S> {
     pub space: S,
     pub worker_gears: Vec<()>,
     pub pump_gears: Vec<()>,
-    pub spare: A,
 }
 
 // The memory of the jobs with these devices.
 type JobSpace<X, K> = TunnelSpace<
     X,
     <K as Devices>::Doors,
-    WorkerRoom,
-    <K as Devices>::Pacer,
-    <K as Devices>::Store,
->;
-
-// The lists for the kits of these devices without outlets, and for the outlets.
-type SpareLists<K> = Spare<
-    <K as Devices>::Doors,
     <K as Devices>::Outlet,
+    WorkerRoom,
     <K as Devices>::Pacer,
     <K as Devices>::Store,
 >;
@@ -47,25 +37,6 @@ fn make_rooms(alloc: Global, count: usize) -> Result<Vec<WorkerRoom>, Want>
         rooms.push_reserved(WorkerRoom::make(alloc)?);
     }
     Ok(rooms)
-}
-
-fn take_spare<K: Devices>(
-    alloc: Global,
-    workers: usize,
-    pumps: usize,
-) -> Result<SpareLists<K>, Want>
-    ensures workers { IfOk result (λ spare. IsSpareFor workers spare.workers.items
-        (vec_capacity spare.workers) spare.worker_outlets.items
-        (vec_capacity spare.worker_outlets)) }
-    ensures pumps { IfOk result (λ spare. IsSpareFor pumps spare.pumps.items
-        (vec_capacity spare.pumps) spare.pump_outlets.items (vec_capacity spare.pump_outlets)) }
-{
-    Ok(Spare {
-        workers: with_room(alloc, workers)?,
-        worker_outlets: with_room(alloc, workers)?,
-        pumps: with_room(alloc, pumps)?,
-        pump_outlets: with_room(alloc, pumps)?,
-    })
 }
 
 // Takes the memory for jobs at their seats.
@@ -96,24 +67,17 @@ pub(crate) fn take_memory<X: Drop, K: Devices>(
     alloc: Global,
     workers: usize,
     pumps: usize,
-) -> Result<Memory<JobSpace<X, K>, SpareLists<K>>, Want>
+) -> Result<Memory<JobSpace<X, K>>, Want>
     ensures workers { IfOk result (λ memory. IsSpaceFor workers memory.worker_gears.items
         memory.space.worker_rooms.items memory.space.workers.items
         (vec_capacity memory.space.workers)) }
     ensures pumps { IfOk result (λ memory. IsSpaceFor pumps memory.pump_gears.items
         memory.space.pump_rooms.items memory.space.pumps.items
         (vec_capacity memory.space.pumps)) }
-    ensures spare_workers { IfOk result (λ memory. IsSpareFor workers memory.spare.workers.items
-        (vec_capacity memory.spare.workers) memory.spare.worker_outlets.items
-        (vec_capacity memory.spare.worker_outlets)) }
-    ensures spare_pumps { IfOk result (λ memory. IsSpareFor pumps memory.spare.pumps.items
-        (vec_capacity memory.spare.pumps) memory.spare.pump_outlets.items
-        (vec_capacity memory.spare.pump_outlets)) }
 {
     Ok(Memory {
         worker_gears: make_gears(alloc, workers)?,
         pump_gears: make_gears(alloc, pumps)?,
-        spare: take_spare::<K>(alloc, workers, pumps)?,
         space: take_space::<X, K>(alloc, workers, pumps)?,
     })
 }

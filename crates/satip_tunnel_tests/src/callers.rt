@@ -107,12 +107,13 @@ fn burst_twice<R: Wait + Sync + Abort>(
 {
     let mut caller = TunnelCaller { rt, server, pass };
     let mut asks = Asks::new(70);
-    caller.burst(&mut asks, out).expect(rt, "spent");
+    let mut room = TunnelEvent::Enter;
+    caller.burst(&mut asks, &mut room, out).expect(rt, "spent");
     check(rt, "first burst", caller.pass.place(), 64);
     if asks.ended || asks.given {
         rt.panic("the first burst took all");
     }
-    caller.burst(&mut asks, out).expect(rt, "spent");
+    caller.burst(&mut asks, &mut room, out).expect(rt, "spent");
     check(rt, "both bursts", (caller.pass.place(), asks.left), (70, 0));
 }
 

@@ -21,13 +21,15 @@ pub(crate) enum Fed {
     Full,
 }
 
-// Asks the feed for an event, serves it, commits its entry and passes the answer to the feed.
+// Asks the feed for an event, which it writes over `event`, serves it, commits its entry and passes
+// the answer to the feed.
 pub(crate) fn feed_one<S: Served, F: Feed<S>>(
     table: &TurnTable<S>,
     seat: &mut TurnSeat<S>,
     place: &mut u64,
     served: &mut S,
     feed: &mut F,
+    event: &mut S::Event,
     out: &mut S::Out,
 ) -> Fed
     requires cell { (seat.old.table_id ≡ table.now.table_id) × IsTurnTable table.now.table_id }
@@ -56,14 +58,14 @@ pub(crate) fn feed_one<S: Served, F: Feed<S>>(
         (Unit {0}) (Unit {0}) (place.new ≡ LONGEST_HISTORY) }
     ensures took_last { F.took_last feed.old out.old → F.took_last feed.new out.new }
 {
-    let Some(event) = feed.next() else {
+    if !feed.next(event) {
         return Fed::Ended;
-    };
+    }
     if *place == u64::MAX {
         return Fed::Full;
     }
-    let answer = served.serve(&event, out);
-    commit(table, seat, &event, &answer, out);
+    let answer = served.serve(event, out);
+    commit(table, seat, event, &answer, out);
     feed.took(&answer, out);
     *place += 1;
     Fed::Made
@@ -76,6 +78,7 @@ pub(crate) fn feed_many<S: Served, F: Feed<S>>(
     place: &mut u64,
     served: &mut S,
     feed: &mut F,
+    event: &mut S::Event,
     out: &mut S::Out,
 ) -> Burst
     requires cell { (seat.old.table_id ≡ table.now.table_id) × IsTurnTable table.now.table_id }
@@ -95,7 +98,7 @@ pub(crate) fn feed_many<S: Served, F: Feed<S>>(
     ensures took_last { F.took_last feed.old out.old → F.took_last feed.new out.new }
 {
     for made in 0..BURST {
-        match feed_one(table, seat, place, served, feed, out) {
+        match feed_one(table, seat, place, served, feed, event, out) {
             Fed::Made => {}
             Fed::Ended => return Burst { made, spent: false },
             Fed::Full => return Burst { made, spent: true },

@@ -106,12 +106,13 @@ impl<S: Served> TurnCell<S> {
 
     /// Executes the feed's events one after another under one turn; each adds one entry. Ends when
     /// the feed has none left, after 64 entries, or when the history is full. Waits for the turn.
-    /// No entry of another caller lies between those of a burst.
+    /// No entry of another caller lies between those of a burst. `event` is room for one event.
     pub fn burst<R: Wait, F: Feed<S>>(
         &self,
         rt: &R,
         pass: &mut Pass<S>,
         feed: &mut F,
+        event: &mut S::Event,
         out: &mut S::Out,
     ) -> Burst
         requires of { IsOf pass.old self.now }
@@ -141,6 +142,7 @@ impl<S: Served> TurnCell<S> {
             &mut pass.place,
             &mut *served,
             feed,
+            event,
             out,
         );
         give(&self.table.shared, &mut pass.seat, served);

@@ -1,5 +1,5 @@
 //! The source of the events of a burst.
-ghost use Rattle.std.specs.Prelude.{◌≡◌, Bool, false, List, [], ◌∷◌, ◌++◌, Option, Some, None, MatchOption, IsSome, is_none};
+ghost use Rattle.std.specs.Prelude.{◌≡◌, Bool, false, List, [], ◌∷◌, ◌++◌, Option, Some, None, IsSome, if◌then◌else◌, not};
 ghost use Rattle.satip_base.specs.declared.entry.Taken.{Taken};
 ghost use Rattle.satip_base.specs.History.{taken};
 
@@ -10,7 +10,7 @@ pub trait Feed<S: Served> {
     // the event that was given and not yet answered, if there is one
     ghost given: { Self → Option S.Event };
 
-    // whether its last event was None
+    // whether it had no event left when it was last asked
     ghost ended: { Self → Bool };
 
     // from the first state to the second, it took these events with their answers and outputs, in
@@ -20,12 +20,13 @@ pub trait Feed<S: Served> {
     // the output that it took last may be this one
     ghost took_last: { Self → S.Out → Type 0 };
 
-    /// Returns the next event, or None if there is none left. It isn't called again after None.
-    fn next(&mut self) -> Option<S::Event>
+    /// Writes the next event over `event` and returns true. Returns false if there is none left, and
+    /// isn't called again then.
+    fn next(&mut self, event: &mut S::Event) -> bool
         requires open { ended self.old ≡ false }
         requires none { given self.old ≡ None }
-        ensures given { given self.new ≡ result }
-        ensures ended { ended self.new ≡ is_none result }
+        ensures given { given self.new ≡ (if result then Some event.new else None) }
+        ensures ended { ended self.new ≡ not result }
         ensures taken { (first : Self) (ts : List (Taken S.Event S.Answer S.Out))
             → has_taken first self.old ts → has_taken first self.new ts }
         ensures took_last { (o : S.Out) → took_last self.old o → took_last self.new o };

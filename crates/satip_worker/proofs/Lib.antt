@@ -1,4 +1,5 @@
 pub mod ProgressLemmas
+pub mod PauseLemmas
 pub mod EventLemmas
 pub mod HearingLemmas
 pub mod RunLemmas
@@ -6,4 +7,5 @@ pub mod FirstLemmas
 pub mod StreamLemmas
 pub mod HttpLemmas
 pub mod CauseLemmas
+pub mod DoorLemmas
 pub mod WorkerLemmas

@@ -1,6 +1,7 @@
 pub mod Drawing
 pub mod Answers
 pub mod Progress
+pub mod Pauses
 pub mod Ends
 pub mod Making
 pub mod Requests
@@ -12,4 +13,5 @@ pub mod Hearing
 pub mod FirstAsked
 pub mod HttpTurns
 pub mod Streaming
+pub mod DoorPauses
 pub mod WorkerRun

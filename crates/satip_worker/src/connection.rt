@@ -3,6 +3,7 @@
 ghost use Rattle.std.specs.Prelude.{◌≡◌, ℕ, List, true, false};
 ghost use Rattle.satip_world.specs.Counts.{Rises};
 ghost use Rattle.satip_worker.specs.Drawing.{draws_at, before_draw};
+ghost use Rattle.satip_worker.specs.Pauses.{PausesWhenIdle};
 ghost use Rattle.satip_worker.specs.Served.{ServesConn};
 ghost use Rattle.satip_worker.specs.Progress.{conn_state, SameFaults};
 
@@ -44,6 +45,10 @@ pub fn serve_connection<R: Wait + Sync, S: Service, C: Conn, O: Outlet, P: Pacer
         × ServesConn C.tells O.tells kind peer (draws_at key stream from to)
         (conn_state S.may_want S.known O.outbox C.line service.old outlet.old conn.old)
         (conn_state S.may_want S.known O.outbox C.line service.new outlet.new conn.new) result }
+
+    // The pauses: one for each receive that found nothing.
+    ensures pauses { PausesWhenIdle (C.line conn.old) (C.line conn.new) (P.pauses pacer.old)
+        (P.pauses pacer.new) }
 
     // After `Done`, no receive and no send had failed.
     ensures calm { result ≡ ConnEnd.Done → SameFaults (C.line conn.old) (C.line conn.new) }

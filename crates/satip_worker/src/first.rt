@@ -3,6 +3,7 @@
 ghost use Rattle.std.specs.Prelude.{◌≡◌};
 ghost use Rattle.satip_frame.specs.Held.{new_framer};
 ghost use Rattle.satip_worker.specs.FirstAsked.{ReadsFirst};
+ghost use Rattle.satip_worker.specs.Pauses.{PausesWhenIdle};
 
 use satip_base::limits::PIECE;
 use satip_frame::{Break, Framer, Next, Piece, next_asked};
@@ -30,6 +31,8 @@ pub(crate) fn read_first<R: Wait + Sync, C: Conn, P: Pacer>(
 ) -> First
     requires new { framer.old ≡ new_framer }
     ensures reads { ReadsFirst C.tells (C.line conn.old) (C.line conn.new) result }
+    ensures pauses { PausesWhenIdle (C.line conn.old) (C.line conn.new) (P.pauses pacer.old)
+        (P.pauses pacer.new) }
 {
     let mut buf = [0; PIECE];
     let mut request = HttpRequest::broken(Break::Bad);

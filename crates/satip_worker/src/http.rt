@@ -4,6 +4,7 @@
 ghost use Rattle.std.specs.Prelude.{◌≡◌, ℕ, List, false};
 ghost use Rattle.satip_frame.specs.Held.{new_framer};
 ghost use Rattle.satip_worker.specs.Drawing.{draws_at, before_draw};
+ghost use Rattle.satip_worker.specs.Pauses.{PausesWhenIdle};
 ghost use Rattle.satip_worker.specs.Served.{ServesConn};
 ghost use Rattle.satip_worker.specs.Streaming.{Streams};
 ghost use Rattle.satip_worker.specs.Progress.{conn_state};
@@ -37,6 +38,8 @@ fn stream<R: Wait + Sync, S: Service, C: Conn, O: Outlet, P: Pacer>(
     ensures streams { Streams C.tells O.tells session
         (conn_state S.may_want S.known O.outbox C.line service.old outlet.old conn.old)
         (conn_state S.may_want S.known O.outbox C.line service.new outlet.new conn.new) result }
+    ensures pauses { PausesWhenIdle (C.line conn.old) (C.line conn.new) (P.pauses pacer.old)
+        (P.pauses pacer.new) }
 {
     let mut buf = [0; PIECE];
     for _ in rt.forever() {
@@ -78,6 +81,8 @@ pub(crate) fn serve_http<R: Wait + Sync, S: Service, C: Conn, O: Outlet, P: Pace
         × ServesConn C.tells O.tells DoorKind.Http peer (draws_at key stream from to)
         (conn_state S.may_want S.known O.outbox C.line service.old outlet.old conn.old)
         (conn_state S.may_want S.known O.outbox C.line service.new outlet.new conn.new) result }
+    ensures pauses { PausesWhenIdle (C.line conn.old) (C.line conn.new) (P.pauses pacer.old)
+        (P.pauses pacer.new) }
 {
     match read_first(rt, conn, pacer, &mut room.framer) {
         First::Ended => ConnEnd::Done,

@@ -58,6 +58,7 @@ pub(crate) fn get<S: Service, C: Conn, O: Outlet>(
     ensures free { (O.outbox outlet.new).held ≡ false }
     ensures same { S.same service.old service.new }
     ensures input { (C.line conn.new).ended ≡ (C.line conn.old).ended }
+    ensures idles { (C.line conn.new).idles ≡ (C.line conn.old).idles }
     ensures draws { (key : List ℕ) (stream number : ℕ) → draws.old ≡ before_draw key stream number
         → draws.new ≡ before_draw key stream (number + 1) }
     ensures turns { (key : List ℕ) (stream number : ℕ) → draws.old ≡ before_draw key stream number
@@ -98,6 +99,7 @@ pub(crate) fn pull<S: Service, C: Conn, O: Outlet>(
     ensures free { (O.outbox outlet.new).held ≡ false }
     ensures same { S.same service.old service.new }
     ensures input { (C.line conn.new).ended ≡ (C.line conn.old).ended }
+    ensures idles { (C.line conn.new).idles ≡ (C.line conn.old).idles }
     ensures turns { PullTurns C.tells O.tells
         (conn_state S.may_want S.known O.outbox C.line service.old outlet.old conn.old)
         (conn_state S.may_want S.known O.outbox C.line service.new outlet.new conn.new)

@@ -1,8 +1,8 @@
 //! Serves RTSP and HTTP connections, one after another, over any service.
 //! Contract: the entries of a connection are the first requests in the bytes that it received, with
-//! one draw each; the bytes that were sent are their replies, in order.
-//! Only tested: that a pause follows when nothing comes in; that a reply leaves after the datagrams
-//! of its request.
+//! one draw each; the bytes that were sent are their replies, in order. One pause follows each
+//! receive that found nothing, and each time that no connection came.
+//! Only tested: that a reply leaves after the datagrams of its request.
 #![tactic(auto)]
 
 mod connection;

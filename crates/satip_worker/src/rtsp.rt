@@ -7,6 +7,7 @@ ghost use Rattle.satip_plain.specs.Suits.{closes};
 ghost use Rattle.satip_worker.specs.Drawing.{draw_at, draws_at, before_draw};
 ghost use Rattle.satip_worker.specs.Turns.{Turns};
 ghost use Rattle.satip_worker.specs.Hearing.{Course, Stands, Hears};
+ghost use Rattle.satip_worker.specs.Pauses.{PausesWhenIdle};
 ghost use Rattle.satip_worker.specs.Served.{ServesConn};
 ghost use Rattle.satip_worker.specs.Progress.{conn_state};
 
@@ -35,6 +36,7 @@ fn turn<S: Service, C: Conn, O: Outlet>(
     ensures free { (O.outbox outlet.new).held ≡ false }
     ensures same { S.same service.old service.new }
     ensures input { (C.line conn.new).ended ≡ (C.line conn.old).ended }
+    ensures idles { (C.line conn.new).idles ≡ (C.line conn.old).idles }
     ensures draws { (key : List ℕ) (stream number : ℕ) → draws.old ≡ before_draw key stream number
         → draws.new ≡ before_draw key stream (number + 1) }
     ensures turns { (key : List ℕ) (stream number : ℕ) → draws.old ≡ before_draw key stream number
@@ -74,6 +76,7 @@ fn hear<S: Service, C: Conn, O: Outlet>(
     ensures free { (O.outbox outlet.new).held ≡ false }
     ensures same { S.same service.old service.new }
     ensures input { (C.line conn.new).ended ≡ (C.line conn.old).ended }
+    ensures idles { (C.line conn.new).idles ≡ (C.line conn.old).idles }
     ensures hears { (course : Course) (text : List ℕ)
         → course.peer ≡ peer
         → Stands C.tells O.tells course
@@ -124,6 +127,8 @@ pub(crate) fn serve_rtsp<R: Wait + Sync, S: Service, C: Conn, O: Outlet, P: Pace
         × ServesConn C.tells O.tells DoorKind.Rtsp peer (draws_at key stream from to)
         (conn_state S.may_want S.known O.outbox C.line service.old outlet.old conn.old)
         (conn_state S.may_want S.known O.outbox C.line service.new outlet.new conn.new) result }
+    ensures pauses { PausesWhenIdle (C.line conn.old) (C.line conn.new) (P.pauses pacer.old)
+        (P.pauses pacer.new) }
 {
     let mut buf = [0; PIECE];
     for _ in rt.forever() {

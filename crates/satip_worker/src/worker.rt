@@ -3,6 +3,7 @@
 ghost use Rattle.std.specs.Prelude.{◌≡◌, ◌≢◌, ◌↔◌, ℕ, List, true, false};
 ghost use Rattle.satip_world.specs.Counts.{Rises};
 ghost use Rattle.satip_world.specs.Halls.{IsAtLimit};
+ghost use Rattle.satip_worker.specs.DoorPauses.{PausesAtDoors, PausesOne};
 ghost use Rattle.satip_worker.specs.Drawing.{draws_at, before_draw};
 ghost use Rattle.satip_worker.specs.WorkerRun.{ServesOne, ServesDoors, doors_state};
 
@@ -51,6 +52,9 @@ fn serve_one<R: Wait + Sync, S: Service, D: Doors, O: Outlet, P: Pacer>(
         (doors_state S.may_want S.known D.hall O.outbox service.old kit.old)
         (doors_state S.may_want S.known D.hall O.outbox service.new kit.new)
         (D.Conn.line conn) result }
+    ensures pauses { PausesOne 0 (D.Conn.line conn) (D.hall kit.old.doors) (D.hall kit.new.doors)
+        (record { kind = kind; peer = peer }) result (P.pauses kit.old.pacer)
+        (P.pauses kit.new.pacer) }
 {
     let end = serve_connection(
         rt,
@@ -86,6 +90,11 @@ pub fn run_worker<R: Wait + Sync, S: Service, D: Doors, O: Outlet, P: Pacer>(
     ensures serves { ServesDoors D.Conn.tells O.tells kit.old.key number
         (doors_state S.may_want S.known D.hall O.outbox service.old kit.old)
         (doors_state S.may_want S.known D.hall O.outbox service.new kit.new) result }
+
+    // The pauses: one for each time that no connection came, and one for each receive of a
+    // connection that found nothing.
+    ensures pauses { PausesAtDoors 0 (D.hall kit.old.doors) (D.hall kit.new.doors)
+        (P.pauses kit.old.pacer) (P.pauses kit.new.pacer) }
 
     // The cause of each end.
     ensures closed { (result ≡ WorkerEnd.Closed) ↔ ((D.hall kit.new.doors).ended ≡ true) }

@@ -213,6 +213,8 @@ impl Scripted {
 }
 
 impl Service for Scripted {
+    type Room = Event;
+
     ghost setting = { λ _. test_setting };
 
     ghost legal = { λ _ _. Unit {0} };
@@ -237,17 +239,26 @@ impl Service for Scripted {
 
     ghost same_want = { λ _ _ _. refl };
 
+    fn room() -> Event {
+        Event::Stop
+    }
+
     fn call(&mut self, event: &Event, out: &mut Out) -> Result<Answer, ServiceFault> {
         self.make(event, out)
     }
 
-    fn burst<L: Lot>(&mut self, lot: &mut L, out: &mut Out) -> Result<(), ServiceFault> {
+    fn burst<L: Lot>(
+        &mut self,
+        lot: &mut L,
+        room: &mut Event,
+        out: &mut Out,
+    ) -> Result<(), ServiceFault> {
         for made in 0..64u32 {
-            let Some(event) = lot.next() else {
+            if !lot.next(room) {
                 return Ok(());
-            };
+            }
             let _ = made;
-            match self.make(&event, out) {
+            match self.make(room, out) {
                 Ok(answer) => lot.took(&answer, out),
                 Err(fault) => return Err(fault),
             }

@@ -35,15 +35,16 @@ impl<'a> Lot for GatedLot<'a> {
 
     ghost none_taken = { λ _. refl };
 
-    fn next(&mut self) -> Option<Event> {
+    fn next(&mut self, event: &mut Event) -> bool {
         pass_gate(self.inside, self.open);
         if self.asked {
             self.ended = true;
-            return None;
+            return false;
         }
         self.asked = true;
         self.given = true;
-        Some(Event::Ask { front: 1 })
+        *event = Event::Ask { front: 1 };
+        true
     }
 
     fn took(&mut self, _answer: &Answer, _out: &Out) {
@@ -71,7 +72,7 @@ fn burst_gated<R: Wait + Sync>(
         given: false,
         ended: false,
     };
-    caller.burst(&mut lot, &mut out).is_ok()
+    caller.burst(&mut lot, &mut Event::Stop, &mut out).is_ok()
 }
 
 // Makes a burst in one thread, and tries to stop the server in another. Returns whether the burst

@@ -39,13 +39,14 @@ impl Lot for Asks {
 
     ghost none_taken = { λ a. Prim.search rules };
 
-    fn next(&mut self) -> Option<Event> {
+    fn next(&mut self, event: &mut Event) -> bool {
         if self.left == 0 {
             self.ended = true;
-            return None;
+            return false;
         }
         self.given = true;
-        Some(Event::Ask { front: 1 })
+        *event = Event::Ask { front: 1 };
+        true
     }
 
     fn took(&mut self, _answer: &Answer, _out: &Out) {

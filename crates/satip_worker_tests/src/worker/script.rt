@@ -330,6 +330,8 @@ impl Scripted {
 }
 
 impl Service for Scripted {
+    type Room = Event;
+
     ghost setting = { λ _. test_setting };
 
     ghost legal = { λ _ _. Unit {0} };
@@ -357,15 +359,24 @@ impl Service for Scripted {
 
     ghost same_want = { λ _ _ _. refl };
 
+    fn room() -> Event {
+        Event::Stop
+    }
+
     fn call(&mut self, event: &Event, out: &mut Out) -> Result<Answer, ServiceFault> {
         self.make(event, out)
     }
 
     // It makes no bursts.
-    fn burst<L: Lot>(&mut self, lot: &mut L, _out: &mut Out) -> Result<(), ServiceFault> {
-        match lot.next() {
-            Some(_) => Err(ServiceFault::Want),
-            None => Ok(()),
+    fn burst<L: Lot>(
+        &mut self,
+        lot: &mut L,
+        room: &mut Event,
+        _out: &mut Out,
+    ) -> Result<(), ServiceFault> {
+        if lot.next(room) {
+            return Err(ServiceFault::Want);
         }
+        Ok(())
     }
 }

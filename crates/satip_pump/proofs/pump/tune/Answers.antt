@@ -8,21 +8,21 @@ pub returns-then-before-eq0-clause-answered : goal.returns-then-before-eq0-claus
 returns-then-before-eq0-clause-answered g c = λ o runs.
     let empty : c.fill.new.reading.buffer.packets ≡ [] = none_waits c.fill.new.reading.buffer.packets (omega arith) in
     finished _ _ _ _ _ o _ _ _ _ _ _ _ _ _ _
-    (turned _ _ _ _ o _ _ (g.M.MuxStore.shelf c.args.kit.now.store) _ _ _ _ _ _ _ runs c.turn_to.ensures.goes c.turn_to.ensures.recordings c.fill.ensures.reads_on)
+    (turned _ _ _ _ o _ _ (g.M.MuxStore.shelf c.args.store.now) _ _ _ _ _ _ _ runs c.turn_to.ensures.goes c.turn_to.ensures.recordings c.fill.ensures.reads_on)
     (of_itself c.args.tuning.0 c.args.tuning.1)
     empty (c.fill.ensures.empty empty) c.tell_end.ensures.works
 
 pub returns-then-pump-eq-PLACES-clause-answered : goal.returns-then-pump-eq-PLACES-clause-answered
 returns-then-pump-eq-PLACES-clause-answered g c = λ o runs.
     given _ _ _ _ _ o _ _ _ _ _ _ _ _ c.fill.new.reading c.give-answer.new.buffer _
-    (turned _ _ _ _ o _ _ (g.M.MuxStore.shelf c.args.kit.now.store) _ _ _ _ _ _ _ runs c.turn_to.ensures.goes c.turn_to.ensures.recordings c.fill.ensures.reads_on)
+    (turned _ _ _ _ o _ _ (g.M.MuxStore.shelf c.args.store.now) _ _ _ _ _ _ _ runs c.turn_to.ensures.goes c.turn_to.ensures.recordings c.fill.ensures.reads_on)
     (of_itself c.args.tuning.0 c.args.tuning.1)
     c.give-answer.ensures.gave
 
 pub returns-else-pump-eq-PLACES-clause-answered : goal.returns-else-pump-eq-PLACES-clause-answered
 returns-else-pump-eq-PLACES-clause-answered g c = λ o runs.
     given _ _ _ _ _ o _ _ _ _ _ _ _ _ c.fill.new.reading c.give-answer.new.buffer _
-    (turned _ _ _ _ o _ _ (g.M.MuxStore.shelf c.args.kit.now.store) _ _ _ _ _ _ _ runs c.turn_to.ensures.goes c.turn_to.ensures.recordings c.fill.ensures.reads_on)
+    (turned _ _ _ _ o _ _ (g.M.MuxStore.shelf c.args.store.now) _ _ _ _ _ _ _ runs c.turn_to.ensures.goes c.turn_to.ensures.recordings c.fill.ensures.reads_on)
     (of_itself c.args.tuning.0 c.args.tuning.1)
     c.give-answer.ensures.gave
 

@@ -7,8 +7,8 @@ returns-in-Lane g c =
     let talked = c.talk-end.ensures.talked in
     record {
       serves = entered _ _ _ _ _ _ _ _ c.in-Lane.lane _ c.in-Lane.ensures.enters
-          (lane_served _ _ _ _ _ _ _ _ talked.3 c.finish.ensures.finishes);
-      pauses = lane_pauses _ _ _ _ _ _ _ _ _ _ _ _ c.in-Lane.ensures.enters talked.3 c.finish.ensures.finishes talked.2;
+          (lane_served _ _ _ _ _ _ _ _ talked.4 c.finish.ensures.finishes);
+      pauses = lane_pauses _ _ _ _ _ _ _ _ _ _ _ _ c.in-Lane.ensures.enters talked.4 c.finish.ensures.finishes talked.3;
     }
 
 pub returns-in-Full : goal.returns-in-Full

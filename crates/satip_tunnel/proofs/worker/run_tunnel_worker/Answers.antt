@@ -1,14 +1,19 @@
 use Rattle.std.proofs.Common.{refl, ◌∙◌}
 use Rattle.satip_tunnel.proofs.WorkerLemmas.{serves_from, serves_idle, serves_to_end, serves_to_fault, serves_next, serves_to_spent, handed_goes_on, handed_calm}
+use Rattle.satip_worker.proofs.DoorLemmas.{doors_none, doors_idle, doors_kept, doors_served}
 use Rattle.satip_worker.proofs.WorkerLemmas.{spent_goes_on}
 use Rattle.satip_tunnel.proofs.worker.run_tunnel_worker.Goals as goal
 
 pub loop-init : goal.loop-init
-loop-init g c = (refl, refl, serves_from _ _ _ _ _ c.make-draws.ensures.first)
+loop-init g c = (refl, refl, serves_from _ _ _ _ _ c.make-draws.ensures.first, doors_none 1 _ _)
 
 pub loop-preserved : goal.loop-preserved
-loop-preserved g c =
-    (c.loop.invariant.0, c.loop.invariant.1, serves_idle _ _ _ _ _ _ _ c.loop.invariant.2 c.in-Idle.ensures.opens)
+loop-preserved g c = (
+  c.loop.invariant.0,
+  c.loop.invariant.1,
+  serves_idle _ _ _ _ _ _ _ c.loop.invariant.2 c.in-Idle.ensures.opens,
+  doors_idle 1 _ _ _ _ _ c.loop.invariant.3 _ c.in-Idle.ensures.opens c.pause.ensures.pauses c.pause.ensures.once,
+)
 
 pub loop-preserved-in-Done : goal.loop-preserved-in-Done
 loop-preserved-in-Done g c =
@@ -17,6 +22,7 @@ loop-preserved-in-Done g c =
       c.serve_one.ensures.key ∙ c.loop.invariant.0,
       c.serve_one.ensures.outlet ∙ c.loop.invariant.1,
       serves_next _ _ _ _ _ _ _ _ _ on _ _ run.0 c.in-Came.ensures.opens run.1 run.2 c.serve_one.new.caller.short refl,
+      doors_served 1 _ _ _ _ _ (doors_kept 1 _ _ _ _ _ c.loop.invariant.3 _ c.in-Came.ensures.opens.content c.in-Came.ensures.opens.idles) _ _ _ _ c.in-Came.ensures.opens.fresh c.serve_one.ensures.pauses,
     )
 
 pub loop-preserved-in-ReadFault : goal.loop-preserved-in-ReadFault
@@ -26,6 +32,7 @@ loop-preserved-in-ReadFault g c =
       c.serve_one.ensures.key ∙ c.loop.invariant.0,
       c.serve_one.ensures.outlet ∙ c.loop.invariant.1,
       serves_next _ _ _ _ _ _ _ _ _ on _ _ run.0 c.in-Came.ensures.opens run.1 run.2 c.serve_one.new.caller.short refl,
+      doors_served 1 _ _ _ _ _ (doors_kept 1 _ _ _ _ _ c.loop.invariant.3 _ c.in-Came.ensures.opens.content c.in-Came.ensures.opens.idles) _ _ _ _ c.in-Came.ensures.opens.fresh c.serve_one.ensures.pauses,
     )
 
 pub loop-preserved-in-WriteFault : goal.loop-preserved-in-WriteFault
@@ -35,6 +42,7 @@ loop-preserved-in-WriteFault g c =
       c.serve_one.ensures.key ∙ c.loop.invariant.0,
       c.serve_one.ensures.outlet ∙ c.loop.invariant.1,
       serves_next _ _ _ _ _ _ _ _ _ on _ _ run.0 c.in-Came.ensures.opens run.1 run.2 c.serve_one.new.caller.short refl,
+      doors_served 1 _ _ _ _ _ (doors_kept 1 _ _ _ _ _ c.loop.invariant.3 _ c.in-Came.ensures.opens.content c.in-Came.ensures.opens.idles) _ _ _ _ c.in-Came.ensures.opens.fresh c.serve_one.ensures.pauses,
     )
 
 pub returns-in-Spent-clause-tunnel : goal.returns-in-Spent-clause-tunnel
@@ -89,3 +97,13 @@ returns-in-End-clause-serves g c = serves_to_end _ _ _ _ _ _ _ c.loop.invariant.
 
 pub returns-in-Failed-clause-serves : goal.returns-in-Failed-clause-serves
 returns-in-Failed-clause-serves g c = serves_to_fault _ _ _ _ _ _ _ c.loop.invariant.2 c.in-Failed.ensures.opens
+
+pub returns-in-Spent-clause-pauses : goal.returns-in-Spent-clause-pauses
+returns-in-Spent-clause-pauses g c =
+    doors_served 1 _ _ _ _ _ (doors_kept 1 _ _ _ _ _ c.loop.invariant.3 _ c.in-Came.ensures.opens.content c.in-Came.ensures.opens.idles) _ _ _ _ c.in-Came.ensures.opens.fresh c.serve_one.ensures.pauses
+
+pub returns-in-End-clause-pauses : goal.returns-in-End-clause-pauses
+returns-in-End-clause-pauses g c = doors_kept 1 _ _ _ _ _ c.loop.invariant.3 _ c.in-End.ensures.opens.content c.in-End.ensures.opens.idles
+
+pub returns-in-Failed-clause-pauses : goal.returns-in-Failed-clause-pauses
+returns-in-Failed-clause-pauses g c = doors_kept 1 _ _ _ _ _ c.loop.invariant.3 _ c.in-Failed.ensures.opens.content c.in-Failed.ensures.opens.idles

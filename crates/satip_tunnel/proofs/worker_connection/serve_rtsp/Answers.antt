@@ -1,6 +1,7 @@
 use Rattle.std.proofs.Common.{◌∙◌, sym}
 use Rattle.satip_tunnel.proofs.CauseLemmas.{spent_filled}
 use Rattle.satip_tunnel.proofs.ConnLemmas.{rtsp_served, only_spent, never_wants}
+use Rattle.satip_tunnel.proofs.PauseLemmas.{served_tunnel}
 use Rattle.satip_tunnel.proofs.worker_connection.serve_rtsp.Goals as goal
 
 pub returns-clause-serves : goal.returns-clause-serves
@@ -13,3 +14,6 @@ returns-clause-spent g c = λ is.
 
 pub returns-clause-no_want : goal.returns-clause-no_want
 returns-clause-no_want g c = λ is. never_wants _ (sym c.conn_end.ensures.end ∙ is)
+
+pub returns-clause-pauses : goal.returns-clause-pauses
+returns-clause-pauses g c = served_tunnel _ _ _ _ _ _ _ _ c.serve_tunnel.ensures.pauses

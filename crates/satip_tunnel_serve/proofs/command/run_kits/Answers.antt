@@ -1,10 +1,8 @@
 use Rattle.std.proofs.Common.{ap}
-use Rattle.satip_tunnel.specs.Silences.{no_outbox}
-use Rattle.satip_serve.proofs.LeftKits.{come_back_as}
 use Rattle.satip_serve.specs.Statuses.{serving_status}
 use Rattle.satip_serve.proofs.EndLemmas.{come_unused, unused_of}
 use Rattle.satip_serve.proofs.StatusLemmas.{limit_told}
-use Rattle.satip_tunnel_serve.proofs.EndLemmas.{fresh_seen, outlets_stay, tunnel_end}
+use Rattle.satip_tunnel_serve.proofs.EndLemmas.{tunnel_end}
 use Rattle.satip_tunnel_serve.proofs.AskedOn.{run_asks}
 use Rattle.satip_tunnel_serve.proofs.Channelling.{payloads_sent}
 use Rattle.satip_tunnel_serve.proofs.Recorded.{tunnel_plays}
@@ -12,7 +10,7 @@ use Rattle.satip_tunnel_serve.proofs.command.run_kits.Goals as goal
 
 pub returns-in-Ok-clause-ran : goal.returns-in-Ok-clause-ran
 returns-in-Ok-clause-ran g c =
-    let fresh = fresh_seen g.K.Doors.Doors.hall g.K.Outlet.Outlet.outbox g.K.Store.MuxStore.shelf g.K.Clock.Clock.dial c.args._accepts c.args.jobs c.requires.fresh in
+    let fresh = c.requires.fresh in
     let ran = c.in-Ok.ensures.ran in
     let run = ran.jobs.run c.args._accepts fresh in
     let laws = c.keeps_laws.ensures in
@@ -28,8 +26,8 @@ returns-in-Ok-clause-ran g c =
       recordings = tunnel_plays _ _ _ _ _ _ run laws.recordings;
       frames = c.connections_have_lanes.ensures.law _ _ _ _ _ run;
       channels = payloads_sent _ _ (run_asks _ _ _ _ _ _ run) ran.knows.lawful laws.numbers laws.channels;
-      kits_left = come_back_as g.K.Doors.Doors.hall no_outbox g.K.Outlet.Outlet.outbox g.K.Store.MuxStore.shelf g.K.Clock.Clock.dial c.args.jobs c.in-Ok.last.jobs ran.jobs.kits_left;
-      outlets = outlets_stay g.K.Doors.Doors.hall g.K.Outlet.Outlet.outbox g.K.Store.MuxStore.shelf g.K.Clock.Clock.dial c.args.jobs c.in-Ok.last.jobs c.in-Ok.ensures.outlets;
+      kits_left = ran.jobs.kits_left;
+      outlets = ran.jobs.outlets;
       ends = tunnel_end c.in-Ok.end _ _ (ran.jobs.ended c.args._accepts fresh);
     })
 

@@ -1,4 +1,5 @@
 use Rattle.satip_worker.proofs.HttpLemmas.{ran_to_nothing, ran_to_failure, ran_to_refusal, ran_to_cut_refusal, ran_to_unmade, ran_to_cut_start, ran_to_stream}
+use Rattle.satip_worker.proofs.PauseLemmas.{pauses_on, pauses_then}
 use Rattle.satip_worker.proofs.http.serve_http.Goals as goal
 
 pub returns-in-Ended-clause-serves : goal.returns-in-Ended-clause-serves
@@ -33,3 +34,25 @@ pub returns-in-Unmade-clause-serves : goal.returns-in-Unmade-clause-serves
 returns-in-Unmade-clause-serves g c = λ key stream from are.
     rw c.end_of.ensures.end (ran_to_unmade _ _ _ key stream from _ _ _ _ _ _ _ c.in-Asked.ensures.reads (c.get.ensures.draws key stream from are) _
     (c.in-Unmade.ensures.turns key stream from are))
+
+pub returns-in-Ended-clause-pauses : goal.returns-in-Ended-clause-pauses
+returns-in-Ended-clause-pauses g c = c.read_first.ensures.pauses
+
+pub returns-in-Failed-clause-pauses : goal.returns-in-Failed-clause-pauses
+returns-in-Failed-clause-pauses g c = c.read_first.ensures.pauses
+
+pub returns-in-Started-clause-pauses : goal.returns-in-Started-clause-pauses
+returns-in-Started-clause-pauses g c =
+    pauses_then _ _ _ _ _ _ (pauses_on _ _ _ _ _ c.read_first.ensures.pauses c.get.ensures.idles) c.stream.ensures.pauses
+
+pub returns-in-StartCut-clause-pauses : goal.returns-in-StartCut-clause-pauses
+returns-in-StartCut-clause-pauses g c = pauses_on _ _ _ _ _ c.read_first.ensures.pauses c.get.ensures.idles
+
+pub returns-in-Refused-clause-pauses : goal.returns-in-Refused-clause-pauses
+returns-in-Refused-clause-pauses g c = pauses_on _ _ _ _ _ c.read_first.ensures.pauses c.get.ensures.idles
+
+pub returns-in-RefusalCut-clause-pauses : goal.returns-in-RefusalCut-clause-pauses
+returns-in-RefusalCut-clause-pauses g c = pauses_on _ _ _ _ _ c.read_first.ensures.pauses c.get.ensures.idles
+
+pub returns-in-Unmade-clause-pauses : goal.returns-in-Unmade-clause-pauses
+returns-in-Unmade-clause-pauses g c = pauses_on _ _ _ _ _ c.read_first.ensures.pauses c.get.ensures.idles

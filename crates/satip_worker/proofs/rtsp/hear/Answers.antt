@@ -12,6 +12,7 @@ requests-init g c = (
   refl,
   λ course text same stands. stands_whole _ _ course _ _ text c.args.room.now.framer.bytes _ _ c.new-rest.ensures.whole stands,
   c.requires.free,
+  refl,
 )
 
 pub requests-preserved : goal.requests-preserved
@@ -29,6 +30,7 @@ requests-preserved g c = (
             c.turn.ensures.draws Sent c.in-Sent.ensures.turns _ next;
       },
   c.turn.ensures.free,
+  c.turn.ensures.idles ∙ c.requests.invariant.5,
 )
 
 pub returns-in-Lost-clause-hears : goal.returns-in-Lost-clause-hears

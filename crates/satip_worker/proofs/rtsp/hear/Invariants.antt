@@ -19,6 +19,7 @@ invariant-requests g l =
     (conn_state g.S.Service.may_want g.S.Service.known g.O.Outlet.outbox g.C.Conn.line l.service l.outlet l.conn)
     l.draws text (l.room.framer.bytes ++ l.rest))
     × ((g.O.Outlet.outbox l.outlet).held ≡ false)
+    × ((g.C.Conn.line l.conn).idles ≡ (g.C.Conn.line l.initial.conn).idles)
 
 -- each message takes some of the bytes
 abbrev pub decreases-requests : goal.decreases-requests

@@ -22,14 +22,14 @@ pub loop-made-preserved : goal.loop-made-preserved
 loop-made-preserved g c =
     let i = c.loop-made.invariant in
     let called = c.in-Ok.ensures.called in
-    let own = adds_turned c.loop-made.self.caller.pass c.call.new.self.caller.pass c.args.self.now.caller.pass.number c.in-Some.event c.in-Ok.answer
+    let own = adds_turned c.loop-made.self.caller.pass c.call.new.self.caller.pass c.args.self.now.caller.pass.number c.next.new.event c.in-Ok.answer
     c.call.new.out i.1.caller.pass.number c.in-Ok.ensures.turned in
     let takes : (ts : List (Taken Event Answer Output)) → g.L.Lot.has_taken c.args.lot.now c.loop-made.lot ts
-    → g.L.Lot.has_taken c.args.lot.now c.took.new.self (ts ++ taken c.in-Some.event c.in-Ok.answer c.call.new.out ∷ []) =
-    λ ts has. c.took.ensures.taken c.args.lot.now ts c.in-Some.event c.in-Some.ensures.given (c.next.ensures.taken c.args.lot.now ts has) in (
-      under_way_more c.args.self.now.caller.pass.number _ _ _ _ _ _ c.in-Some.event c.in-Ok.answer c.call.new.out i.0 own called.suits takes,
+    → g.L.Lot.has_taken c.args.lot.now c.took.new.self (ts ++ taken c.next.new.event c.in-Ok.answer c.call.new.out ∷ []) =
+    λ ts has. c.took.ensures.taken c.args.lot.now ts c.next.new.event (search rules) (c.next.ensures.taken c.args.lot.now ts has) in (
+      under_way_more c.args.self.now.caller.pass.number _ _ _ _ _ _ c.next.new.event c.in-Ok.answer c.call.new.out i.0 own called.suits takes,
       same_journal_then g.K.JobSink.tells _ _ _ i.1 c.call.ensures.same,
-      c.took.ensures.ended ∙ c.in-Some.ensures.ended,
+      c.took.ensures.ended ∙ search rules,
       c.took.ensures.given,
       λ _. c.took.ensures.took_last,
     )

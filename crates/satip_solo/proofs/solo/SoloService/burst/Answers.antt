@@ -1,4 +1,4 @@
-use Rattle.std.proofs.Common.{◌∙◌, List, ◌++◌, ◌∷◌, [], refl}
+use Rattle.std.proofs.Common.{◌∙◌, List, ◌++◌, ◌∷◌, [], refl, rules}
 use Rattle.satip_base.specs.Output.{Output}
 use Rattle.satip_base.specs.declared.entry.Taken.{Taken}
 use Rattle.satip_base.specs.History.{taken}
@@ -18,13 +18,13 @@ loop-made-preserved g c =
     let i = c.loop-made.invariant in
     let goes = c.in-Ok.ensures.made in
     let takes : (ts : List (Taken Event Answer Output)) → g.L.Lot.has_taken c.args.lot.now c.loop-made.lot ts
-    → g.L.Lot.has_taken c.args.lot.now c.took.new.self (ts ++ taken c.in-Some.event c.in-Ok.answer c.make.new.out ∷ []) =
-    λ ts has. c.took.ensures.taken c.args.lot.now ts c.in-Some.event c.in-Some.ensures.given (c.next.ensures.taken c.args.lot.now ts has) in (
-      under_way_more 0 _ _ _ _ _ _ c.in-Some.event c.in-Ok.answer c.make.new.out i.0
+    → g.L.Lot.has_taken c.args.lot.now c.took.new.self (ts ++ taken c.next.new.event c.in-Ok.answer c.make.new.out ∷ []) =
+    λ ts has. c.took.ensures.taken c.args.lot.now ts c.next.new.event (search rules) (c.next.ensures.taken c.args.lot.now ts has) in (
+      under_way_more 0 _ _ _ _ _ _ c.next.new.event c.in-Ok.answer c.make.new.out i.0
           (adds_by _ _ _ _ _ goes) (suits_by _ _ _ _ _ goes c.in-Ok.ensures.legal) takes,
-      (i.1.0 ++ taken c.in-Some.event c.in-Ok.answer c.make.new.out ∷ [], takes i.1.0 i.1.1, goes_on_more _ _ _ _ _ _ _ i.1.2 goes),
+      (i.1.0 ++ taken c.next.new.event c.in-Ok.answer c.make.new.out ∷ [], takes i.1.0 i.1.1, goes_on_more _ _ _ _ _ _ _ i.1.2 goes),
       goes.same_setting ∙ i.2,
-      c.took.ensures.ended ∙ c.in-Some.ensures.ended,
+      c.took.ensures.ended ∙ search rules,
       c.took.ensures.given,
       λ _. c.took.ensures.took_last,
     )
