@@ -98,7 +98,7 @@ class Operator:
         if told["version"] is None:
             print("     by what the system knows, as this program writes no status file")
         said = self.step("metrics", "satipctl", "metrics")
-        self.check('satip_streams{state="playing"} 1.0' in said, "metrics say that one stream plays")
+        self.check('satip_streams{front_end="1",state="playing"} 1.0' in said, "metrics say that one stream plays")
         said = self.step("probe", "satipctl", "probe", "127.0.0.1", f"{QUERY}&pids=all")
         self.check(said.startswith("SATIP OK"), f"probe says {said}")
 

@@ -652,7 +652,7 @@ class Asked(InAFolder):
         self.assertIn(f"destinations of RTP, also some that left: 127.0.0.1:{port}", text)
         self.assertIn("satip_connections 2.0", measured)
         self.assertRegex(measured, r'satip_connection_sent_bytes_total\{client=".*",kind="http"\} [1-9]')
-        self.assertIn('satip_streams{state="playing"} 2.0', measured)
+        self.assertIn('satip_streams{front_end="1",state="playing"} 2.0', measured)
         server.process.kill()
         server.process.wait()
         status, _, errors = self.run_words("status", *words)
