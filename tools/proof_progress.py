@@ -4,7 +4,7 @@
     rt ci 2>&1 | tools/proof_progress.py --log LOG CRATES
 
 CRATES is the crates.txt of what is proved. Copies standard input, which rt prints, to LOG. A line
-is `25 of 52 proved, satip_state, some 14 minutes left`. On a terminal each is written over the one
+is `25 of 52 proved, satip_state, some 15 minutes left`. On a terminal each is written over the one
 before it. What rt says of a crate that isn't proved is printed whole, and the last line of its run.
 
 The minutes come from the seconds of tools/proof_seconds.txt, for as many processors as there are,

@@ -281,6 +281,12 @@ class Check(InAFolder):
         os.environ["SATIP_STOP"] = self.write("", "stop")
         self.addCleanup(os.environ.pop, "SATIP_STOP", None)
         self.assertIn("a server doesn't start", self.check(GOOD, "--no-ports")[2])
+        del os.environ["SATIP_STOP"]
+        os.environ["SATIP_STATUS"] = self.path("none/status")
+        self.addCleanup(os.environ.pop, "SATIP_STATUS", None)
+        status, _, errors = self.check(GOOD, "--no-ports")
+        self.assertEqual(status, 1)
+        self.assertIn("isn't there, so no status file is written", errors)
 
 
 class SchemaAndProgram(InAFolder):
