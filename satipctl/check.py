@@ -192,7 +192,7 @@ def plain(address):
 
 
 def environment():
-    """Variables with which a server doesn't start."""
+    """Variables with which a server doesn't start, or writes no status file."""
     found = []
     for name, value in VARIABLES.items():
         if os.environ.get(name, "") not in ("", value):
@@ -200,4 +200,9 @@ def environment():
     stop = os.environ.get("SATIP_STOP")
     if stop and os.path.exists(stop):
         found.append(Finding(None, f"the stop file {stop} is there, so a server doesn't start"))
+    status = os.environ.get("SATIP_STATUS")
+    folder = os.path.dirname(status or "") or "."
+    if status and not os.path.isdir(folder):
+        told = f"the folder of SATIP_STATUS, {folder}, isn't there, so no status file is written"
+        found.append(Finding(None, told, is_warning=True))
     return found

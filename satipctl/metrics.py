@@ -130,14 +130,17 @@ class Collector:
         yield from (packets, restarts, behind)
 
     def of_streams(self):
-        """Streams by their state, if the server was asked and answers."""
+        """Streams by front end and state, if the server was asked and answers; those that aren't tuned
+        have front end 0."""
         try:
             streams = watch.describe(server_of(os.path.join(".", self.server))) if self.server else None
         except Fault:
             streams = None
         if streams is None:
             return
-        family = self.gauge("streams", "Streams that live.", labels=("state",))
-        family.add_metric(("playing",), sum(it.plays for it in streams))
-        family.add_metric(("paused",), sum(not it.plays for it in streams))
+        family = self.gauge("streams", "Streams that live.", labels=("front_end", "state"))
+        for number in sorted({it.front_end for it in streams}):
+            plays = [it.plays for it in streams if it.front_end == number]
+            family.add_metric((str(number), "playing"), sum(plays))
+            family.add_metric((str(number), "paused"), len(plays) - sum(plays))
         yield family

@@ -4,7 +4,7 @@
     rt ci 2>&1 | tools/proof_progress.py --log LOG CRATES
 
 CRATES is the crates.txt of what is proved. Copies standard input, which rt prints, to LOG. A line
-is `17 of 51 proved, satip_state, some 12 minutes left`. On a terminal each is written over the one
+is `25 of 52 proved, satip_state, some 15 minutes left`. On a terminal each is written over the one
 before it. What rt says of a crate that isn't proved is printed whole, and the last line of its run.
 
 The minutes come from the seconds of tools/proof_seconds.txt, for as many processors as there are,
@@ -23,8 +23,12 @@ SECONDS = os.path.join(os.path.dirname(os.path.abspath(__file__)), "proof_second
 USUAL = 60
 PROVED = re.compile(r"rt: (\w+) (proved|is kept: .*)\n")
 NOT_PROVED = re.compile(r"rt: \w+(: its tests are)? NOT PROVED")
-# The speed of a machine is known after that many seconds of the list.
-ENOUGH, LEAST, MOST = 60, 0.2, 20
+# The speed of a machine is known after that many seconds of the list; before that it is taken as that
+# of the run from nothing of kit 13f on four processors, whose crates were these seconds and a quarter.
+ENOUGH, EARLY, LEAST, MOST = 60, 1.25, 0.2, 20
+# A crate of the longest chain has more than one processor, since others wait for it. With this factor
+# the minutes of that run were 1.2 off on average, and 4.4 at most.
+BESIDE = 1.4
 
 
 def crates_of(path):
@@ -73,12 +77,13 @@ class Progress:
             return chain[name]
 
         work = sum(self.seconds[name] for name in self.crates if name not in self.proved)
-        return max(work / self.processors, max(map(longest, self.crates), default=0))
+        longest_chain = max(map(longest, self.crates), default=0)
+        return max(work / self.processors, longest_chain / min(BESIDE, self.processors))
 
     def minutes(self):
         """The minutes that the rest may take, by the speed so far."""
         done = self.whole - self.kept - self.left()
-        speed = (time.monotonic() - self.begun) / done if done >= ENOUGH else 1
+        speed = (time.monotonic() - self.begun) / done if done >= ENOUGH else EARLY
         return self.left() * min(max(speed, LEAST), MOST) / 60
 
     def line(self, name):

@@ -40,7 +40,7 @@ build() {
   need git git
   need awk mawk
   need find findutils
-  printf 'The program is proved and built first: some 22 minutes on four processors, once.\n'
+  printf 'The program is proved and built first: some 23 minutes on four processors, once.\n'
   "$top/tools/program_alone.sh" || exit 1
 }
 

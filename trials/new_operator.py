@@ -95,10 +95,9 @@ class Operator:
         rates = [it["rate"] for it in told["viewers"] if it["kind"] == "HTTP" and it["rate"] > 0]
         near = len(rates) == 1 and 0.5 < rates[0] / RATE < 1.5
         self.check(near, f"status has a viewer over HTTP of {[round(it / 1e6, 2) for it in rates]} Mbit/s")
-        if told["version"] is None:
-            print("     by what the system knows, as this program writes no status file")
+        self.check(told["version"] is not None, f"of satip {told['version']}, by its status file")
         said = self.step("metrics", "satipctl", "metrics")
-        self.check('satip_streams{state="playing"} 1.0' in said, "metrics say that one stream plays")
+        self.check('satip_streams{front_end="1",state="playing"} 1.0' in said, "metrics say that one stream plays")
         said = self.step("probe", "satipctl", "probe", "127.0.0.1", f"{QUERY}&pids=all")
         self.check(said.startswith("SATIP OK"), f"probe says {said}")
 

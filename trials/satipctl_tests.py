@@ -281,6 +281,12 @@ class Check(InAFolder):
         os.environ["SATIP_STOP"] = self.write("", "stop")
         self.addCleanup(os.environ.pop, "SATIP_STOP", None)
         self.assertIn("a server doesn't start", self.check(GOOD, "--no-ports")[2])
+        del os.environ["SATIP_STOP"]
+        os.environ["SATIP_STATUS"] = self.path("none/status")
+        self.addCleanup(os.environ.pop, "SATIP_STATUS", None)
+        status, _, errors = self.check(GOOD, "--no-ports")
+        self.assertEqual(status, 1)
+        self.assertIn("isn't there, so no status file is written", errors)
 
 
 class SchemaAndProgram(InAFolder):
@@ -652,7 +658,7 @@ class Asked(InAFolder):
         self.assertIn(f"destinations of RTP, also some that left: 127.0.0.1:{port}", text)
         self.assertIn("satip_connections 2.0", measured)
         self.assertRegex(measured, r'satip_connection_sent_bytes_total\{client=".*",kind="http"\} [1-9]')
-        self.assertIn('satip_streams{state="playing"} 2.0', measured)
+        self.assertIn('satip_streams{front_end="1",state="playing"} 2.0', measured)
         server.process.kill()
         server.process.wait()
         status, _, errors = self.run_words("status", *words)

@@ -125,7 +125,6 @@ def readings(server, play):
 def check_status(checks, server, play):
     all_told, (by_rtp, by_http) = readings(server, play)
     told = all_told[-1]
-    viewers = {it["address"]: it for it in told["viewers"]}
     rates = [
         viewer["rate"]
         for it in all_told
@@ -144,22 +143,29 @@ def check_status(checks, server, play):
         all_of_them = {*play.ports, play.left, play.closed}
         checks.check(ports == all_of_them, f"destinations of RTP: {sorted(ports)}")
     else:
-        check_counted(checks, play, told, viewers, by_rtp / 2 * RTP_RATE / RATE)
+        check_counted(checks, play, all_told, by_rtp / 2, by_http)
 
 
-def check_counted(checks, play, told, viewers, counted):
-    """What the status file alone tells; `counted` is a viewer's own rate with the headers of RTP."""
+def mean(all_told, kind, key, value):
+    """The mean rate of a viewer or a front end, over all readings."""
+    return sum(it["rate"] for told in all_told for it in told[kind] if it[key] == value) / len(all_told)
+
+
+def check_counted(checks, play, all_told, by_rtp, by_http):
+    """What the status file alone tells; the rates are those that a viewer of each kind counted."""
+    viewers = {it["address"]: it for it in all_told[-1]["viewers"]}
     for port in play.ports:
-        rate = viewers[f"{ADDRESS}:{port}"]["rate"]
-        checks.check(is_near(rate, counted), f"a viewer by RTP gets {rate / 1e6:.3f} Mbit/s")
+        rate = mean(all_told, "viewers", "address", f"{ADDRESS}:{port}")
+        near = is_near(rate, by_rtp * RTP_RATE / RATE)
+        checks.check(near, f"a viewer by RTP gets {rate / 1e6:.3f} Mbit/s")
     checks.check(f"{ADDRESS}:{play.left}" not in viewers, "the one that left isn't there")
     lost = viewers.get(f"{ADDRESS}:{play.closed}", {"refused": 0})["refused"]
     checks.check(lost > 100, f"{lost} datagrams of the one without a port are refused")
     others = sum(viewers[f"{ADDRESS}:{it}"]["refused"] for it in play.ports)
     checks.check(others == 0, "none of the others")
-    fronts = [it for it in told["front_ends"] if it["rate"]]
-    near = len(fronts) == 2 and all(is_near(it["rate"], RATE) for it in fronts)
-    checks.check(near, f"front ends read {[it['rate'] / 1e6 for it in fronts]} Mbit/s")
+    for number, counted in ((1, by_rtp), (2, by_http)):
+        rate = mean(all_told, "front_ends", "number", number)
+        checks.check(is_near(rate, counted), f"front end {number} reads {rate / 1e6:.3f} Mbit/s")
 
 
 def check_metrics(checks, server, play):
@@ -171,7 +177,8 @@ def check_metrics(checks, server, play):
     if is_told(server):
         found = re.findall(r"satip_datagrams_refused_total\{.*:%d\"\} (\S+)" % play.closed, ran.stdout)
         checks.check(sum(map(float, found)) > 100, f"datagrams refused: {found}")
-    checks.check('satip_streams{state="playing"} 2.0' in ran.stdout, "two streams play")
+    plays = [f'satip_streams{{front_end="{it}",state="playing"}} 1.0' in ran.stdout for it in (1, 2)]
+    checks.check(all(plays), "a stream plays on each of two front ends")
 
 
 def check_page(checks, server, picture):
@@ -185,7 +192,8 @@ def check_page(checks, server, picture):
             told = json.load(answer)
         # A busy machine sends by fits.
         rates = [it["rate"] for it in told["viewers"] if it["rate"] > RATE / 3]
-        count = 3 if is_told(server) else 1
+        # The one without a port is sent datagrams too.
+        count = 4 if is_told(server) else 1
         checks.check(len(rates) == count, f"{url} has {len(rates)} viewers of the rate")
         checks.check(all(it["minute"] for it in told["viewers"]), "each has its minute")
         if not shutil.which("chromium"):
