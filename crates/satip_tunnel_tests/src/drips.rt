@@ -93,8 +93,8 @@ fn count_messages(taker: &mut Taker, text: &[u8], times: u32) -> u32 {
     count
 }
 
-// Returns the microseconds that a row takes, the least of three times. Asserts that each text is one
-// message.
+// Returns the microseconds that a row takes, the least of twelve times. Asserts that each text is
+// one message.
 fn least_micros(
     rt: &impl Abort,
     host: HostRuntime,
@@ -104,7 +104,7 @@ fn least_micros(
     let text = repeated(host.alloc(), row.parts)?;
     check(rt, "bytes", text.len() as u64 * row.times as u64, 327_680);
     let mut least = u128::MAX;
-    for _ in 0..3u32 {
+    for _ in 0..12u32 {
         let begin = Instant::now(&host)?;
         let count = count_messages(taker, &text, row.times);
         let micros = begin.elapsed(&host)?.as_micros();
