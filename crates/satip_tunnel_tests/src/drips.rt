@@ -102,7 +102,12 @@ fn least_micros(
     row: Row,
 ) -> Result<u128, Fail> {
     let text = repeated(host.alloc(), row.parts)?;
-    check(rt, "bytes", text.len() as u64 * row.times as u64, 327_680);
+    check(
+        rt,
+        "bytes",
+        (text.len() as u64).saturating_mul(row.times as u64),
+        327_680,
+    );
     let mut least = u128::MAX;
     for _ in 0..12u32 {
         let begin = Instant::now(&host)?;

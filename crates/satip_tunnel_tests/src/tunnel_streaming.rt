@@ -134,10 +134,10 @@ const BROKEN: &[Row] = &[Row {
     ..IDLE
 }];
 
-/// The service that feeds a connection, and what comes before the receive of number `fed_at`.
+/// The caller that feeds a connection, and what comes before the receive of number `fed_at`.
 #[derive(Drop)]
-struct Feeder<S: Service + Drop> {
-    service: S,
+struct Feeder<'a, R: Wait + Sync> {
+    caller: TunnelCaller<'a, R>,
     packet: Packet,
     out: Out,
     fed_at: u32,
@@ -148,20 +148,20 @@ struct Feeder<S: Service + Drop> {
 /// A connection over memory. A tick comes before its second receive, and packets before a later
 /// one.
 #[derive(Drop)]
-struct Fed<S: Service + Drop> {
+struct Fed<'a, R: Wait + Sync> {
     conn: MemoryConn,
-    feeder: Feeder<S>,
+    feeder: Feeder<'a, R>,
     receives: u32,
 }
 
 // Makes an event, whatever it is answered.
-fn feed<S: Service>(feeder: &mut S, event: &Event, out: &mut Out) {
-    let _answer = feeder.call(event, out);
+fn feed<R: Wait + Sync>(caller: &mut TunnelCaller<R>, event: &Event, out: &mut Out) {
+    let _answer = caller.call(event, out);
 }
 
 // Makes so many packets, and a tick behind them if there is one.
-fn feed_packets<S: Service>(
-    feeder: &mut S,
+fn feed_packets<R: Wait + Sync>(
+    caller: &mut TunnelCaller<R>,
     packet: &Packet,
     packets: u32,
     tick: bool,
@@ -173,30 +173,24 @@ fn feed_packets<S: Service>(
         packet: *packet,
     };
     for _packet in 0..packets {
-        feed(feeder, &event, out);
+        feed(caller, &event, out);
     }
     if tick {
-        feed(feeder, &Event::Tick { now: 1040 }, out);
+        feed(caller, &Event::Tick { now: 1040 }, out);
     }
 }
 
 // Makes what comes before a receive, by its number from 1.
-fn feed_before<S: Service + Drop>(by: &mut Feeder<S>, receive: u32) {
+fn feed_before<R: Wait + Sync>(by: &mut Feeder<R>, receive: u32) {
     if receive == 2 {
-        feed(&mut by.service, &Event::Tick { now: 1000 }, &mut by.out);
+        feed(&mut by.caller, &Event::Tick { now: 1000 }, &mut by.out);
     }
     if receive == by.fed_at {
-        feed_packets(
-            &mut by.service,
-            &by.packet,
-            by.packets,
-            by.tick,
-            &mut by.out,
-        );
+        feed_packets(&mut by.caller, &by.packet, by.packets, by.tick, &mut by.out);
     }
 }
 
-impl<S: Service + Drop> Conn for Fed<S> {
+impl<'a, R: Wait + Sync> Conn for Fed<'a, R> {
     ghost tells = { Unit {0} };
 
     ghost line = { λ f. f.conn };
@@ -212,9 +206,14 @@ impl<S: Service + Drop> Conn for Fed<S> {
     }
 }
 
-// Makes a connection that sets up and plays, which is fed by this service. A send that fails passes
+// Makes a connection that sets up and plays, which is fed by this caller. A send that fails passes
 // ten bytes.
-fn fed_by<S: Service + Drop>(rt: &impl Abort, alloc: Global, service: S, row: &Row) -> Fed<S> {
+fn fed_by<'a, R: Wait + Sync>(
+    rt: &impl Abort,
+    alloc: Global,
+    caller: TunnelCaller<'a, R>,
+    row: &Row,
+) -> Fed<'a, R> {
     let packet = Packet::of(&packet_bytes(16)).expect(rt, "packet");
     let out = Out::make(alloc).expect(rt, "out of memory");
     let conn = MemoryConn::make(alloc, row.pieces, &[], row.failing_sends, 10).expect(
@@ -222,7 +221,7 @@ fn fed_by<S: Service + Drop>(rt: &impl Abort, alloc: Global, service: S, row: &R
         "out of memory",
     );
     let feeder = Feeder {
-        service,
+        caller,
         packet,
         out,
         fed_at: row.receive,
@@ -259,11 +258,11 @@ fn check_sent<'a>(rt: &impl Abort, name: &str, sent: &'a [u8], all: &'a [u8], wa
 }
 
 // Serves a connection, and asserts its end, its entries and its pauses.
-fn check_end<R: Wait + Sync + Abort, S: Service + Drop>(
+fn check_end<R: Wait + Sync + Abort>(
     rt: &R,
     alloc: Global,
     caller: &mut TunnelCaller<R>,
-    conn: &mut Fed<S>,
+    conn: &mut Fed<R>,
     row: &Row,
 ) {
     let mut room = TunnelRoom::make(alloc).expect(rt, "out of memory");
