@@ -134,60 +134,52 @@ const BROKEN: &[Row] = &[Row {
     ..IDLE
 }];
 
-/// The caller that feeds a connection, and what comes before the receive of number `fed_at`.
-#[derive(Drop)]
-struct Feeder<'a, R: Wait + Sync> {
-    caller: TunnelCaller<'a, R>,
+/// What comes before the receives of a connection: a tick before the second one, and packets before
+/// the one of number `fed_at`, with a tick behind them if there is one.
+#[derive(Clone, Copy)]
+struct Plan {
     packet: Packet,
-    out: Out,
     fed_at: u32,
     packets: u32,
     tick: bool,
 }
 
-/// A connection over memory. A tick comes before its second receive, and packets before a later
-/// one.
+impl Plan {
+    // Returns how many events come before a receive, by its number from 1.
+    fn count_before(&self, receive: u32) -> u32 {
+        if receive == 2 {
+            return 1;
+        }
+        if receive == self.fed_at {
+            return self.packets.saturating_add(u32::from(self.tick));
+        }
+        0
+    }
+
+    // Returns an event that comes before a receive, by its place from 0.
+    fn event_before(&self, receive: u32, place: u32) -> Event {
+        if receive == 2 {
+            return Event::Tick { now: 1000 };
+        }
+        if place < self.packets {
+            return Event::Packet {
+                front: 1,
+                tune: 1,
+                packet: self.packet,
+            };
+        }
+        Event::Tick { now: 1040 }
+    }
+}
+
+/// A connection over memory. Before its receives a caller makes what the plan says.
 #[derive(Drop)]
 struct Fed<'a, R: Wait + Sync> {
     conn: MemoryConn,
-    feeder: Feeder<'a, R>,
+    caller: TunnelCaller<'a, R>,
+    plan: Plan,
+    out: Out,
     receives: u32,
-}
-
-// Makes an event, whatever it is answered.
-fn feed<R: Wait + Sync>(caller: &mut TunnelCaller<R>, event: &Event, out: &mut Out) {
-    let _answer = caller.call(event, out);
-}
-
-// Makes so many packets, and a tick behind them if there is one.
-fn feed_packets<R: Wait + Sync>(
-    caller: &mut TunnelCaller<R>,
-    packet: &Packet,
-    packets: u32,
-    tick: bool,
-    out: &mut Out,
-) {
-    let event = Event::Packet {
-        front: 1,
-        tune: 1,
-        packet: *packet,
-    };
-    for _packet in 0..packets {
-        feed(caller, &event, out);
-    }
-    if tick {
-        feed(caller, &Event::Tick { now: 1040 }, out);
-    }
-}
-
-// Makes what comes before a receive, by its number from 1.
-fn feed_before<R: Wait + Sync>(by: &mut Feeder<R>, receive: u32) {
-    if receive == 2 {
-        feed(&mut by.caller, &Event::Tick { now: 1000 }, &mut by.out);
-    }
-    if receive == by.fed_at {
-        feed_packets(&mut by.caller, &by.packet, by.packets, by.tick, &mut by.out);
-    }
 }
 
 impl<'a, R: Wait + Sync> Conn for Fed<'a, R> {
@@ -196,8 +188,14 @@ impl<'a, R: Wait + Sync> Conn for Fed<'a, R> {
     ghost line = { λ f. f.conn };
 
     fn receive(&mut self, buf: &mut [u8]) -> Received {
-        self.receives = self.receives.saturating_add(1);
-        feed_before(&mut self.feeder, self.receives);
+        let receive = self.receives.saturating_add(1);
+        self.receives = receive;
+        let plan = self.plan;
+        let caller = &mut self.caller;
+        let out = &mut self.out;
+        for place in 0..plan.count_before(receive) {
+            let _answer = caller.call(&plan.event_before(receive, place), out);
+        }
         self.conn.receive(buf)
     }
 
@@ -220,17 +218,17 @@ fn fed_by<'a, R: Wait + Sync>(
         rt,
         "out of memory",
     );
-    let feeder = Feeder {
-        caller,
+    let plan = Plan {
         packet,
-        out,
         fed_at: row.receive,
         packets: row.packets,
         tick: row.tick,
     };
     Fed {
         conn,
-        feeder,
+        caller,
+        plan,
+        out,
         receives: 0,
     }
 }
