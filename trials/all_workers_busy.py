@@ -4,8 +4,8 @@
     trials/all_workers_busy.py
 
 About as many connections as there are workers wait at a listener. A client at a full one sees it
-when it connects, and is let in once a worker is free. A connection that ended before it asked isn't
-counted; one that asked before its end is served. Ends with status 1 if something doesn't hold, as
+when it connects, and is let in once a worker is free. A connection that ended before it asked is
+dropped and counted; one that asked before its end is served. Ends with status 1 if something doesn't hold, as
 with WITHOUT=1 in the environment, where each listener has the system's own backlog (that needs gcc and
 libc6-dev). Needs the built program (trials/lib/server.py), and iproute2 for ss(8).
 
@@ -95,23 +95,19 @@ def read_all(line):
 
 
 def try_ended(checks, name, place):
-    """A server that ends after one connection that counts."""
+    """A server of two connections. One with its end alone counts, as one that asks does."""
     request, wanted = ASKED[name]
-    with Server(ADDRESS, workers=1, accepts=1) as server:
-        for _ in range(3):
-            got, took = read_all(come_and_end(server, server.ports[place], b""))
-            dropped = got == b"" and took is not None and took < 1
-            text = f"a connection with its end alone is dropped at once: {seconds(took)}"
-            checks.check(dropped, f"{name}: {text}")
-            time.sleep(1)
-            if not server.lives():
-                break
-        checks.check(server.lives(), f"{name}: none of them counts")
+    with Server(ADDRESS, workers=1, accepts=2) as server:
+        got, took = read_all(come_and_end(server, server.ports[place], b""))
+        dropped = got == b"" and took is not None and took < 1
+        checks.check(dropped, f"{name}: a connection with its end alone is dropped at once: {seconds(took)}")
+        time.sleep(1)
+        checks.check(server.lives(), f"{name}: one of two came, and the server waits for the other")
         if server.lives():
             got, _ = read_all(come_and_end(server, server.ports[place], request))
             checks.check(got.startswith(wanted), f"{name}: a request before the end: {got[:20]}")
         status = server.status(10)
-        checks.check(status == 0, f"{name}: that one counts, and the server ends: {status}")
+        checks.check(status == 0, f"{name}: both count, and the server ends: {status}")
 
 
 def main():
